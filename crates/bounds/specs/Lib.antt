@@ -1,0 +1,4 @@
+pub mod Amounts
+pub mod Formed
+pub mod Routes
+pub mod Theorems

@@ -1,0 +1,213 @@
+-- Members of lists, and what tests, filters, maps and sorts do to them. Membership itself is the library's.
+use Prim.Native.Nat.{ℕ, zero, suc, _+_, _<_, suc-le-suc}
+use mathlib.Core.Path.{_≡_, refl, sym, ap, ap₂, _∙_, subst}
+use mathlib.Core.Logic.{_⊎_, inl, inr}
+use mathlib.Core.Bool.{Bool, true, false, not, _&&_, _||_, cond}
+use mathlib.Core.Option.{Option, none, some, Option·some-injective, Option·none-ne-some}
+use mathlib.Core.List.{List, [], _∷_, map, List·Memᴰ, List·Memᴰ·head, List·Memᴰ·tail, List·Memᴰ·not-nil, List·Memᴰ·cases-cons}
+use native.Mathlib.Nat.{zero-lt-suc, not-suc-le-zero, le-of-suc-le-suc}
+use native.Mathlib.Omega.{arith}
+use lib.Dec.{T}
+use lib.ListN.{length, getD, take, drop}
+use lib.Ieee.Fits.{and-l, and-r, and-i}
+use Rattle.model.specs.Lists.{In, cons-if, cons-some, keep, any, all, first, head, last, front, insert, sort, tab, maybe, collect, fold}
+
+pub or-l : (a b : Bool) → T a → T (a || b)
+or-l true b t = tt
+
+pub or-r : (a b : Bool) → T b → T (a || b)
+or-r true b t = tt
+or-r false b t = t
+
+-- what holds of both arms holds of a choice
+pub either : {A : Type 0} (P : A → Type 0) (b : Bool) {x y : A} → P x → P y → P (cond b x y)
+either P true h k = h
+either P false h k = k
+
+module _ {A : Type 0} where
+  pub here : {x : A} {xs : List A} → In x (x ∷ xs)
+  here = List·Memᴰ·head refl
+
+  pub all-at : (p : A → Bool) {x : A} {xs : List A} → T (all p xs) → In x xs → T (p x)
+  unfolding all
+  all-at p {x} t (List·Memᴰ·head {x = y} {xs} e) = subst (λ (z : A). T (p z)) (sym e) (and-l (p y) (all p xs) t)
+  all-at p t (List·Memᴰ·tail {x = y} {xs} m) = all-at p (and-r (p y) (all p xs) t) m
+
+  pub any-of : (p : A → Bool) {x : A} {xs : List A} → In x xs → T (p x) → T (any p xs)
+  unfolding any
+  any-of p {x} (List·Memᴰ·head {x = y} {xs} e) t = or-l (p y) (any p xs) (subst (λ (z : A). T (p z)) e t)
+  any-of p (List·Memᴰ·tail {x = y} {xs} m) t = or-r (p y) (any p xs) (any-of p m t)
+
+  pub all-of-members : (p : A → Bool) (xs : List A) → ((x : A) → In x xs → T (p x)) → T (all p xs)
+  unfolding all
+  all-of-members p [] h = tt
+  all-of-members p (x ∷ xs) h = and-i (p x) (all p xs) (h x here) (all-of-members p xs (λ y m. h y (List·Memᴰ·tail m)))
+
+  pub in-front : {x : A} (xs : List A) → In x (front xs) → In x xs
+  unfolding front
+  in-front [] m = m
+  in-front (y ∷ []) m = List·Memᴰ·tail m
+  in-front {x} (y ∷ z ∷ zs) m = elim (List·Memᴰ·cases-cons m) [ inl e ↦ List·Memᴰ·head e | inr k ↦ List·Memᴰ·tail (in-front (z ∷ zs) k) ]
+
+  pub in-getD : (xs : List A) (i : ℕ) (d : A) → i < length xs → In (getD xs i d) xs
+  in-getD [] i d h = absurd (not-suc-le-zero h)
+  in-getD (x ∷ xs) zero d h = here
+  in-getD (x ∷ xs) (suc i) d h = List·Memᴰ·tail (in-getD xs i d (le-of-suc-le-suc h))
+
+  pub in-take : {x : A} (n : ℕ) (xs : List A) → In x (take n xs) → In x xs
+  in-take zero xs m = absurd (List·Memᴰ·not-nil m)
+  in-take (suc n) [] m = m
+  in-take (suc n) (y ∷ ys) m = elim (List·Memᴰ·cases-cons m) [ inl e ↦ List·Memᴰ·head e | inr k ↦ List·Memᴰ·tail (in-take n ys k) ]
+
+  pub in-drop : {x : A} (n : ℕ) (xs : List A) → In x (drop n xs) → In x xs
+  in-drop zero xs m = m
+  in-drop (suc n) [] m = m
+  in-drop (suc n) (y ∷ ys) m = List·Memᴰ·tail (in-drop n ys m)
+
+  pub in-last : (xs : List A) (x : A) → last xs ≡ some x → In x xs
+  unfolding last
+  in-last [] x e = absurd (Option·none-ne-some x e)
+  in-last (y ∷ []) x e = List·Memᴰ·head (sym (Option·some-injective y x e))
+  in-last (y ∷ z ∷ zs) x e = List·Memᴰ·tail (in-last (z ∷ zs) x e)
+
+  pub in-head : (xs : List A) (x : A) → head xs ≡ some x → In x xs
+  unfolding head
+  in-head [] x e = absurd (Option·none-ne-some x e)
+  in-head (y ∷ ys) x e = List·Memᴰ·head (sym (Option·some-injective y x e))
+
+  -- ---- keep
+
+  pub keep-yes : (p : A → Bool) (x : A) (xs : List A) → p x ≡ true → keep p (x ∷ xs) ≡ x ∷ keep p xs
+  unfolding keep cons-if
+  keep-yes p x xs e = rw (e, cons-if)
+
+  pub keep-no : (p : A → Bool) (x : A) (xs : List A) → p x ≡ false → keep p (x ∷ xs) ≡ keep p xs
+  unfolding keep cons-if
+  keep-no p x xs e = rw (e, cons-if)
+
+  -- q drops nothing that p keeps
+  pub keep-keep : (p q : A → Bool) → ((x : A) → T (p x) → T (q x)) → (xs : List A) → keep p xs ≡ keep p (keep q xs)
+  unfolding keep
+  keep-keep p q h [] = refl
+  keep-keep p q h (x ∷ xs) = go (p x) refl (q x) refl (keep-keep p q h xs)
+    where
+      go : (b : Bool) → p x ≡ b → (c : Bool) → q x ≡ c → keep p xs ≡ keep p (keep q xs) → keep p (x ∷ xs) ≡ keep p (keep q (x ∷ xs))
+      go true e true f ih = keep-yes p x xs e ∙ ap (λ (ys : List A). x ∷ ys) ih ∙ sym (ap (keep p) (keep-yes q x xs f) ∙ keep-yes p x (keep q xs) e)
+      go true e false f ih = absurd (subst T f (h x (subst T (sym e) tt)))
+      go false e true f ih = keep-no p x xs e ∙ ih ∙ sym (ap (keep p) (keep-yes q x xs f) ∙ keep-no p x (keep q xs) e)
+      go false e false f ih = keep-no p x xs e ∙ ih ∙ sym (ap (keep p) (keep-no q x xs f))
+
+  pub in-keep : (p : A → Bool) {x : A} (xs : List A) → In x (keep p xs) → In x xs × T (p x)
+  unfolding keep
+  in-keep p [] m = absurd (List·Memᴰ·not-nil m)
+  in-keep p {x} (y ∷ ys) m = go (p y) refl (in-keep p {x = x} ys)
+    where
+      go : (b : Bool) → p y ≡ b → (In x (keep p ys) → In x ys × T (p x)) → In x (y ∷ ys) × T (p x)
+      go true e ih = elim (List·Memᴰ·cases-cons (subst (In x) (keep-yes p y ys e) m)) [
+        | inl f ↦ (List·Memᴰ·head f, subst (λ (z : A). T (p z)) (sym f) (subst T (sym e) tt))
+        | inr k ↦ (List·Memᴰ·tail (ih k .0), ih k .1)
+      ]
+      go false e ih = let k = ih (subst (In x) (keep-no p y ys e) m) in (List·Memᴰ·tail (k .0), k .1)
+
+  pub keep-in : (p : A → Bool) {x : A} (xs : List A) → In x xs → p x ≡ true → In x (keep p xs)
+  unfolding keep
+  keep-in p [] m e = absurd (List·Memᴰ·not-nil m)
+  keep-in p {x} (y ∷ ys) m e = go (p y) refl (List·Memᴰ·cases-cons m) (λ k. keep-in p ys k e)
+    where
+      go : (b : Bool) → p y ≡ b → (x ≡ y) ⊎ In x ys → (In x ys → In x (keep p ys)) → In x (keep p (y ∷ ys))
+      go true f (inl q) ih = subst (In x) (sym (keep-yes p y ys f)) (List·Memᴰ·head q)
+      go true f (inr k) ih = subst (In x) (sym (keep-yes p y ys f)) (List·Memᴰ·tail (ih k))
+      go false f (inl q) ih = absurd (subst T f (subst (λ (z : A). T (p z)) q (subst T (sym e) tt)))
+      go false f (inr k) ih = subst (In x) (sym (keep-no p y ys f)) (ih k)
+
+  -- ---- first
+
+  pub first-in : (p : A → Bool) (xs : List A) (x : A) → first p xs ≡ some x → In x xs × T (p x)
+  unfolding first
+  first-in p [] x e = absurd (Option·none-ne-some x e)
+  first-in p (y ∷ ys) x e = go (p y) refl e (first-in p ys x)
+    where
+      go : (b : Bool) → p y ≡ b → cond b (some y) (first p ys) ≡ some x → (first p ys ≡ some x → In x ys × T (p x)) → In x (y ∷ ys) × T (p x)
+      go true f k ih = let q = Option·some-injective y x k in (List·Memᴰ·head (sym q), subst (λ (z : A). T (p z)) q (subst T (sym f) tt))
+      go false f k ih = let m = ih k in (List·Memᴰ·tail (m .0), m .1)
+
+  -- ---- sort
+
+  pub in-insert : {z : A} (below : A → A → Bool) (x : A) (ys : List A) → In z (insert below x ys) → (z ≡ x) ⊎ In z ys
+  unfolding insert
+  in-insert below x [] m = List·Memᴰ·cases-cons m
+  in-insert {z} below x (y ∷ ys) m = go (below x y) (in-insert {z = z} below x ys) m
+    where
+      later : (z ≡ x) ⊎ In z ys → (z ≡ x) ⊎ In z (y ∷ ys)
+      later (inl p) = inl p
+      later (inr k) = inr (List·Memᴰ·tail k)
+
+      go : (b : Bool) → (In z (insert below x ys) → (z ≡ x) ⊎ In z ys) → In z (cond b (x ∷ y ∷ ys) (y ∷ insert below x ys)) → (z ≡ x) ⊎ In z (y ∷ ys)
+      go true ih m = List·Memᴰ·cases-cons m
+      go false ih m = elim (List·Memᴰ·cases-cons m) [ inl p ↦ inr (List·Memᴰ·head p) | inr k ↦ later (ih k) ]
+
+  pub in-sort : {z : A} (below : A → A → Bool) (xs : List A) → In z (sort below xs) → In z xs
+  unfolding sort fold
+  in-sort {z} below xs m = elim (go [] xs m) [ inl k ↦ absurd (List·Memᴰ·not-nil k) | inr k ↦ k ]
+    where
+      go : (ys xs : List A) → In z (fold (λ us x. insert below x us) ys xs) → In z ys ⊎ In z xs
+      go ys [] m = inl m
+      go ys (x ∷ xs) m = elim (go (insert below x ys) xs m) [
+        | inl k ↦ elim (in-insert below x ys k) [ inl p ↦ inr (List·Memᴰ·head p) | inr j ↦ inl j ]
+        | inr k ↦ inr (List·Memᴰ·tail k)
+      ]
+
+  -- ---- tab
+
+  pub length-tab : (n i : ℕ) (f : ℕ → A) → length (tab n i f) ≡ n
+  unfolding tab
+  length-tab zero i f = refl
+  length-tab (suc n) i f = ap suc (length-tab n (i + 1) f)
+
+  pub getD-tab : (n i : ℕ) (f : ℕ → A) (k : ℕ) (d : A) → k < n → getD (tab n i f) k d ≡ f (i + k)
+  unfolding tab
+  getD-tab zero i f k d h = absurd (not-suc-le-zero h)
+  getD-tab (suc n) i f zero d h = ap f {x = i} {y = i + 0} (omega arith)
+  getD-tab (suc n) i f (suc k) d h = getD-tab n (i + 1) f k d (le-of-suc-le-suc h) ∙ ap f {x = i + 1 + k} {y = i + suc k} (omega arith)
+
+  -- from 0
+  pub getD-table : (n : ℕ) (f : ℕ → A) (k : ℕ) (d : A) → k < n → getD (tab n 0 f) k d ≡ f k
+  getD-table n f k d h = getD-tab n 0 f k d h ∙ ap f {x = 0 + k} {y = k} (omega arith)
+
+  pub in-tab : {x : A} (n i : ℕ) (f : ℕ → A) → In x (tab n i f) → (k : ℕ) × (k < n) × (f (i + k) ≡ x)
+  unfolding tab
+  in-tab zero i f m = absurd (List·Memᴰ·not-nil m)
+  in-tab {x} (suc n) i f m = elim (List·Memᴰ·cases-cons m) [
+    | inl e ↦ (zero, zero-lt-suc n, ap f {x = i + 0} {y = i} (omega arith) ∙ sym e)
+    | inr t ↦ let k = in-tab n (i + 1) f t in (suc (k .0), suc-le-suc (k .1), ap f {x = i + suc (k .0)} {y = i + 1 + k .0} (omega arith) ∙ k .2)
+  ]
+
+  pub tab-in : (n i : ℕ) (f : ℕ → A) (k : ℕ) → k < n → In (f (i + k)) (tab n i f)
+  unfolding tab
+  tab-in zero i f k h = absurd (not-suc-le-zero h)
+  tab-in (suc n) i f zero h = List·Memᴰ·head (ap f {x = i + 0} {y = i} (omega arith))
+  tab-in (suc n) i f (suc k) h = List·Memᴰ·tail (subst (λ (j : ℕ). In (f j) (tab n (i + 1) f)) {x = i + 1 + k} {y = i + suc k} (omega arith) (tab-in n (i + 1) f k (le-of-suc-le-suc h)))
+
+module _ {A B : Type 0} where
+  pub map-eq : (f g : A → B) (xs : List A) → ((x : A) → In x xs → f x ≡ g x) → map f xs ≡ map g xs
+  map-eq f g [] h = refl
+  map-eq f g (x ∷ xs) h = ap₂ (λ (y : B) (ys : List B). y ∷ ys) (h x here) (map-eq f g xs (λ y m. h y (List·Memᴰ·tail m)))
+
+  -- a filter behind a map is one before it
+  pub keep-map : (f : A → B) (p : B → Bool) (xs : List A) → keep p (map f xs) ≡ map f (keep (λ x. p (f x)) xs)
+  unfolding keep
+  keep-map f p [] = refl
+  keep-map f p (x ∷ xs) = go (p (f x)) refl (keep-map f p xs)
+    where
+      go : (b : Bool) → p (f x) ≡ b → keep p (map f xs) ≡ map f (keep (λ y. p (f y)) xs) → keep p (f x ∷ map f xs) ≡ map f (keep (λ y. p (f y)) (x ∷ xs))
+      go true e ih = keep-yes p (f x) (map f xs) e ∙ ap (λ (ys : List B). f x ∷ ys) ih ∙ sym (ap (map f) (keep-yes (λ y. p (f y)) x xs e))
+      go false e ih = keep-no p (f x) (map f xs) e ∙ ih ∙ sym (ap (map f) (keep-no (λ y. p (f y)) x xs e))
+
+  pub in-collect : {y : B} (f : A → Option B) (xs : List A) → In y (collect f xs) → (x : A) × In x xs × (f x ≡ some y)
+  unfolding collect cons-some
+  in-collect f [] m = absurd (List·Memᴰ·not-nil m)
+  in-collect {y} f (x ∷ xs) m = go (f x) refl (in-collect {y = y} f xs) m
+    where
+      go : (o : Option B) → f x ≡ o → (In y (collect f xs) → (u : A) × In u xs × (f u ≡ some y)) → In y (cons-some o (collect f xs)) → (u : A) × In u (x ∷ xs) × (f u ≡ some y)
+      go none e ih m = let k = ih m in (k .0, List·Memᴰ·tail (k .1), k .2)
+      go (some z) e ih m = elim (List·Memᴰ·cases-cons m) [ inl p ↦ (x, here, e ∙ ap some (sym p)) | inr j ↦ let k = ih j in (k .0, List·Memᴰ·tail (k .1), k .2) ]

@@ -1,0 +1,167 @@
+-- "The search": bounded_astar.
+--
+--     0 --10--> 1 --10--> 3       from 0 to 3 over 1: 20 metres; over 2: 30, which the search drops at 3
+--     0 --10--> 2 --20--> 3
+--
+-- The roads leaving a node, their penalties and the distances to the goal are parameters.
+use Prim.Native.Nat.{ℕ, zero, suc, _-_}
+use mathlib.Core.Bool.{Bool, true, false, cond, _||_}
+use mathlib.Core.Option.{Option, none, some}
+use mathlib.Core.List.{List, [], _∷_, _++_}
+use lib.Dec.{eqb, ltb}
+use lib.ListN.{length, getD, set, replicate}
+use lib.Ieee.{Float}
+use Rattle.model.specs.declared.Settings.{Settings}
+use Rattle.model.specs.declared.Road.{Road}
+use Rattle.model.specs.Numbers.{_⊕_, _<ᶠ_, _≤ᶠ_, f0}
+use Rattle.model.specs.Lists.{when, maybe}
+use Rattle.model.specs.Heap.{push, pop}
+use Rattle.model.specs.View.{is-slip}
+
+-- What a search is asked: the way to `goal`, no path longer than `bound` metres, `ahead v` being the distance from v to the goal.
+pub record Query : Type 0 where
+  pub nodes : ℕ
+  pub leaving : ℕ → List Road
+  pub penalty : Road → Float
+  pub ahead : ℕ → Float
+  pub goal : ℕ
+  pub bound : Float
+
+-- A search ends as found with its cost and its roads in travel order, as none or as full.
+pub data Found : Type 0 where
+  found : Float → List Road → Found
+  none-found : Found
+  full : Found
+
+-- slip wins over access
+unfoldable pub penalty : Settings → Road → Float
+penalty c r = cond (is-slip r) (c .«slip_road_cost_penalty») (cond (r .access) (c .«access_road_cost_penalty») f0)
+
+-- ---- the state
+
+-- A node's label: real and penalised cost from the start, and the road it came by, none at the start.
+pub record Label : Type 0 where
+  pub real : Float
+  pub penalised : Float
+  pub came-from : Option Road
+
+-- A heap entry: its key is the penalised cost plus the distance to the goal.
+pub record Entry : Type 0 where
+  pub key : Float
+  pub cost : Float
+  pub node : ℕ
+
+-- The labels of all nodes; the entries made so far, in that order; the heap of their numbers.
+pub record State : Type 0 where
+  pub labels : List (Option Label)
+  pub made : List Entry
+  pub heap : List ℕ
+
+abbrev pub label-at : List (Option Label) → ℕ → Option Label
+label-at ls v = getD ls v none
+
+abbrev pub no-entry : Entry
+no-entry = record { key = f0; cost = f0; node = 0 }
+
+abbrev pub entry-at : List Entry → ℕ → Entry
+entry-at es k = getD es k no-entry
+
+abbrev pub key-of : List Entry → ℕ → Float
+key-of es k = entry-at es k .key
+
+unfoldable pub real-of : Option Label → Float
+real-of none = f0
+real-of (some l) = l .real
+
+-- a label with this penalised cost is there already, or a better one
+unfoldable pub dominated : Option Label → Float → Bool
+dominated none g = false
+dominated (some l) g = l .penalised ≤ᶠ g
+
+-- the entry was made before a better label
+unfoldable pub stale : Option Label → Float → Bool
+stale none g = false
+stale (some l) g = l .penalised <ᶠ g
+
+-- ---- one road
+
+-- The label that road r offers its target from the entry e. Real length decides the bound, penalised cost decides dominance.
+unfoldable pub offered : Query → Entry → List (Option Label) → Road → Option Label
+offered q e ls r =
+    let real = real-of (label-at ls (e .node)) ⊕ r .metres in
+    let cost = e .cost ⊕ r .metres ⊕ q .penalty r in
+    cond (q .bound <ᶠ real || dominated (label-at ls (r .target)) cost) none (some record { real = real; penalised = cost; came-from = some r })
+
+-- Node v gets the label l and an entry. None: the heap has no slot left; slots are not reused.
+unfoldable pub entered : ℕ → Query → State → ℕ → Label → Option State
+entered slots q st v l =
+    let made = st .made ++ record { key = l .penalised ⊕ q .ahead v; cost = l .penalised; node = v } ∷ [] in
+    when (ltb (length (st .made)) slots) record { labels = set (st .labels) v (some l); made = made; heap = push (key-of made) (st .heap) (length (st .made)) }
+
+unfoldable pub relax : ℕ → Query → Entry → State → Road → Option State
+relax slots q e st r = maybe (offered q e (st .labels) r) (some st) (entered slots q st (r .target))
+
+unfoldable pub relax-all : ℕ → Query → Entry → List Road → State → Option State
+relax-all slots q e [] st = some st
+relax-all slots q e (r ∷ rs) st = maybe (relax slots q e st r) none (relax-all slots q e rs)
+
+-- ---- the walk back
+
+unfoldable pub came-from : Option Label → Option Road
+came-from none = none
+came-from (some l) = l .came-from
+
+-- the roads back from node v to the start, in front of `path`, at most k of them
+unfoldable pub trace : ℕ → List (Option Label) → ℕ → List Road → List Road
+trace zero ls v path = path
+trace (suc k) ls v path = maybe (came-from (label-at ls v)) path (λ r. trace k ls (r .source) (r ∷ path))
+
+-- ---- the search
+
+pub data Step : Type 0 where
+  stop : Found → Step
+  more : State → Step
+
+unfoldable pub expanded : Option State → Step
+expanded none = stop full
+expanded (some st) = more st
+
+-- The entry e was taken out of the heap. The goal is tested before the stale test, and the cost is the real label kept at the goal.
+unfoldable pub visit : ℕ → ℕ → Query → Entry → State → Step
+visit steps slots q e st =
+    cond (eqb (e .node) (q .goal)) (stop (found (real-of (label-at (st .labels) (q .goal))) (trace steps (st .labels) (q .goal) [])))
+    (cond (stale (label-at (st .labels) (e .node)) (e .cost)) (more st)
+    (expanded (relax-all slots q e (q .leaving (e .node)) st)))
+
+unfoldable pub take-step : ℕ → ℕ → Query → List ℕ → State → Step
+take-step steps slots q [] st = stop none-found
+take-step steps slots q (top ∷ rest) st = visit steps slots q (entry-at (st .made) top) record { labels = st .labels; made = st .made; heap = pop (key-of (st .made)) (st .heap) }
+
+unfoldable pub onward : Step → (State → Found) → Found
+onward (stop f) again = f
+onward (more st) again = again st
+
+-- Turns, each taking one entry, and steps of the walk back are bounded; crate bounds shows that neither bound is ever met.
+unfoldable pub run : ℕ → ℕ → ℕ → Query → State → Found
+run steps zero slots q st = none-found
+run steps (suc k) slots q st = onward (take-step steps slots q (st .heap) st) (run steps k slots q)
+
+-- the start's label and its entry, which takes the first slot
+unfoldable pub begun : Query → ℕ → State
+begun q start = record {
+  labels = set (replicate (q .nodes) none) start (some record { real = f0; penalised = f0; came-from = none });
+  made = record { key = q .ahead start; cost = f0; node = start } ∷ [];
+  heap = 0 ∷ [];
+}
+
+-- with any bounds on the steps back and on the turns
+unfoldable pub search-within : ℕ → ℕ → ℕ → Query → ℕ → Found
+search-within steps turns slots q start = run steps turns slots q (begun q start)
+
+-- A heap of `slots` entries. No node comes twice on the walk back, and no more entries are taken than made.
+unfoldable pub bounded-astar : ℕ → Query → ℕ → Found
+bounded-astar slots q start = search-within (q .nodes - 1) slots slots q start
+
+-- a way of answering queries, from a start node
+abbrev pub Searcher : Type 0
+Searcher = Query → ℕ → Found

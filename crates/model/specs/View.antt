@@ -1,0 +1,104 @@
+-- What everything before the ends reads of a sheet: rows with the roads they name, the roads that a leg permits, the distances to a goal. Sheets with equal views are decoded alike up to the ends.
+use Prim.Native.Nat.{ℕ, _+_, min}
+use mathlib.Core.Bool.{Bool, true, false, cond, _||_}
+use mathlib.Core.List.{List, [], _∷_, map}
+use lib.Dec.{eqb, leb}
+use lib.ListN.{getD}
+use lib.Ieee.{Float}
+use Rattle.model.specs.declared.Settings.{Settings}
+use Rattle.model.specs.declared.Point.{Point}
+use Rattle.model.specs.declared.Row.{Row}
+use Rattle.model.specs.declared.Road.{Road}
+use Rattle.model.specs.declared.Limits.{Limits}
+use Rattle.model.specs.Numbers.{_⊕_, _⊖_, _⊗_, fmin, fmax, f0, f1, f500}
+use Rattle.model.specs.Lists.{keep, front}
+use Rattle.model.specs.Sheet.{Stop, Goal, Sheet, road-at, leaving-roads}
+
+-- ---- what a leg accepts
+
+-- max_valid_distance: the greatest length for a DNP
+unfoldable pub max-valid-distance : Settings → Float → Float
+max-valid-distance c dnp = fmax (dnp ⊗ (f1 ⊕ c .«length_tolerance»)) (dnp ⊕ c .«absolute_length_tolerance»)
+
+-- min_distance: the least length
+unfoldable pub min-distance : Settings → Float → Float
+min-distance c dnp = fmin (dnp ⊗ (f1 ⊖ c .«length_tolerance»)) (fmax (dnp ⊖ c .«absolute_length_tolerance») f0)
+
+-- max_search_distance
+unfoldable pub max-search-distance : Settings → Float → Float
+max-search-distance c dnp = fmax (dnp ⊗ c .«max_search_distance_factor») f500
+
+-- the limit raised by the FRC tolerance and capped at 7; without a limit (255) every class
+unfoldable pub raised : ℕ → ℕ → ℕ
+raised tolerance limit = cond (eqb limit 255) 255 (min 7 (limit + tolerance))
+
+unfoldable pub limits-of : Settings → Point → Limits
+limits-of c p = record {
+  dnp = p .dnp;
+  least = min-distance c (p .dnp);
+  greatest = max-valid-distance c (p .dnp);
+  reach = max-search-distance c (p .dnp);
+  class = raised (c .«frc_tolerance») (p .limit);
+}
+
+abbrev pub is-slip : Road → Bool
+is-slip r = eqb (r .fow) 6
+
+-- a leg may use the road: its class is within the raised limit, or it is a slip road
+unfoldable pub allows : ℕ → Road → Bool
+allows class r = leb (r .frc) class || is-slip r
+
+-- ---- the view
+
+-- A row with the road that it names.
+pub record Spot : Type 0 where
+  pub row : Row
+  pub road : Road
+
+-- A point with its rows.
+pub record Place : Type 0 where
+  pub point : Point
+  pub spots : List Spot
+
+-- Leg i runs from point i to point i + 1. `leaving v`: the permitted roads leaving v, in list order.
+pub record Leg : Type 0 where
+  pub limits : Limits
+  pub leaving : ℕ → List Road
+
+-- `to-goal g v`: the distance from v to g.
+pub record View : Type 0 where
+  pub kind : ℕ
+  pub nodes : ℕ
+  pub settings : Settings
+  pub places : List Place
+  pub legs : List Leg
+  pub to-goal : ℕ → ℕ → Float
+
+abbrev pub spot-of : Sheet → Row → Spot
+spot-of t w = record { row = w; road = road-at t (w .road) }
+
+abbrev pub place-of : Sheet → Stop → Place
+place-of t p = record { point = p .point; spots = map (spot-of t) (p .rows) }
+
+abbrev pub leg-of : Sheet → Stop → Leg
+leg-of t p =
+    let limits = limits-of (t .settings) (p .point) in
+    record { limits = limits; leaving = λ v. keep (allows (limits .class)) (leaving-roads t v) }
+
+-- the stops that a leg starts from
+abbrev pub leg-stops : Sheet → List Stop
+leg-stops t = front (t .stops)
+
+unfoldable pub distances-to : List Goal → ℕ → List Float
+distances-to [] g = []
+distances-to (x ∷ xs) g = cond (eqb (x .node) g) (x .distances) (distances-to xs g)
+
+unfoldable pub view : Sheet → View
+view t = record {
+  kind = t .kind;
+  nodes = t .nodes;
+  settings = t .settings;
+  places = map (place-of t) (t .stops);
+  legs = map (leg-of t) (leg-stops t);
+  to-goal = λ g v. getD (distances-to (t .goals) g) v f0;
+}
