@@ -1,0 +1,80 @@
+-- "The words of demand 3", and the demand.
+use Prim.Native.Nat.{ℕ, _+_, _<_}
+use mathlib.Core.Path.{_≡_}
+use mathlib.Core.Bool.{Bool, true, false, not, _&&_}
+use mathlib.Core.List.{List}
+use lib.Dec.{eqb, ltb}
+use lib.ListN.{length}
+use lib.Ieee.{Float, eq}
+use Rattle.model.specs.declared.Judged.the-variants.{Fine}
+use Rattle.model.specs.Numbers.{f0}
+use Rattle.model.specs.Lists.{keep, any, all}
+use Rattle.model.specs.Layout.{counts-of, settings-bytes, points-bytes, road-bytes, rows-bytes, distances-bytes}
+use Rattle.model.specs.Judge.{judged}
+use Rattle.model.specs.Sheet.{Sheet, sheet-of, road-at, list-at}
+use Rattle.model.specs.View.{is-slip, leg-stops}
+use Rattle.model.specs.Call.{Areas, Lists, Answer, refused, matched, decode}
+
+-- ---- closed roads
+
+-- A class number exceeds a limit even with the tolerance added, without the cap at 7. There is no limit at 255.
+unfoldable pub exceeds : ℕ → ℕ → ℕ → Bool
+exceeds tolerance limit class = not (eqb limit 255) && ltb (limit + tolerance) class
+
+-- a measured projection names road i
+unfoldable pub named : Sheet → ℕ → Bool
+named t i = any (λ p. any (λ w. eqb (w .road) i) (p .rows)) (t .stops)
+
+-- Road i is closed: no slip road, every leg has a class limit that its class number exceeds, and no projection names it.
+unfoldable pub is-closed : Sheet → ℕ → Bool
+is-closed t i =
+    not (is-slip (road-at t i))
+    && all (λ p. exceeds (t .settings .«frc_tolerance») (p .point .limit) (road-at t i .frc)) (leg-stops t)
+    && not (named t i)
+
+unfoldable pub is-open : Sheet → ℕ → Bool
+is-open t i = not (is-closed t i)
+
+-- ---- alike sheets
+
+-- the sheet that a well-formed byte sequence holds
+abbrev pub parsed : List ℕ → Sheet
+parsed s = sheet-of s (counts-of s)
+
+-- Every road of x that is not closed there is a road of y, with the same number and the same 32 bytes.
+abbrev pub Agree : List ℕ → List ℕ → Type 0
+Agree x y = (i : ℕ) → i < counts-of x .e → is-closed (parsed x) i ≡ false → (i < counts-of y .e) × (road-bytes x (counts-of x) i ≡ road-bytes y (counts-of y) i)
+
+-- Equal kind and N, equal bytes in settings, points, rows and distances; the roads not closed agree, also in their order at each node.
+pub record Alike (x y : List ℕ) : Type 0 where
+  pub kind : counts-of x .kind ≡ counts-of y .kind
+  pub nodes : counts-of x .n ≡ counts-of y .n
+  pub settings : settings-bytes x ≡ settings-bytes y
+  pub points : points-bytes x (counts-of x) ≡ points-bytes y (counts-of y)
+  pub rows : rows-bytes x (counts-of x) ≡ rows-bytes y (counts-of y)
+  pub distances : distances-bytes x (counts-of x) ≡ distances-bytes y (counts-of y)
+  pub agree : Agree x y
+  pub agree-back : Agree y x
+  pub order : (v : ℕ) → keep (is-open (parsed x)) (list-at (parsed x) v) ≡ keep (is-open (parsed y)) (list-at (parsed y) v)
+
+-- ---- the demand
+
+-- What never depends on closed roads: a refusal with its places, or length, primary road and coverage.
+pub data Core : Type 0 where
+  refusal : ℕ → ℕ → ℕ → Core
+  match : Float → ℕ → Float → Core
+
+unfoldable pub core : Answer → Core
+core (refused number a b) = refusal number a b
+core (matched m) = match (m .length-m) (m .primary) (m .coverage)
+
+unfoldable pub no-zero-length : Sheet → Bool
+no-zero-length t = all (λ r. not (eq (r .metres) f0)) (t .roads)
+
+-- With snapping off and no road of length 0 on either sheet, the whole answer and both lists.
+pub record Powerless (x y : List ℕ) (a : Areas) (l : Lists) : Type 0 where
+  pub same-core : core (decode x a l .answer) ≡ core (decode y a l .answer)
+  pub same-whole : parsed x .settings .«snap_to_valid_nodes» ≡ false → no-zero-length (parsed x) ≡ true → no-zero-length (parsed y) ≡ true → decode x a l ≡ decode y a l
+
+abbrev pub Demand3 : Type 0
+Demand3 = (x y : List ℕ) → judged x ≡ Fine → judged y ≡ Fine → Alike x y → (a : Areas) (l : Lists) → Powerless x y a l
