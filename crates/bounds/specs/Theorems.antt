@@ -93,3 +93,13 @@ pub record Numbers (m : Match) (list : List Float) : Type 0 where
 
 abbrev pub NumberTheorem : Type 0
 NumberTheorem = (s : List ℕ) (a : Areas) (l : Lists) (m : Match) → decode s a l .answer ≡ call.matched m → Numbers m (decode s a l .lists .lengths)
+
+-- ---- all of them
+
+pub record Theorems : Type 0 where
+  pub searches : SearchTheorem
+  pub walks : (s : List ℕ) → judged s ≡ Fine → WalkTheorem (sheet-of s (counts-of s))
+  pub fuel : FuelTheorem
+  pub room : RoomTheorem
+  pub list-lengths : ListTheorem
+  pub numbers : NumberTheorem

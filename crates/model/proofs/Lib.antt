@@ -1,3 +1,12 @@
 pub mod Computes
 pub mod MarkedProof
+pub mod EdgesProof
 pub mod Members
+pub mod Turns
+pub mod Judging
+pub mod Fields
+pub mod Once
+pub mod Listed
+pub mod RowSums
+pub mod Sections
+pub mod Parsed

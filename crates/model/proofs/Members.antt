@@ -1,16 +1,16 @@
 -- Members of lists, and what tests, filters, maps and sorts do to them. Membership itself is the library's.
-use Prim.Native.Nat.{ℕ, zero, suc, _+_, _<_, suc-le-suc}
+use Prim.Native.Nat.{ℕ, zero, suc, _+_, _-_, _≤_, _<_, suc-le-suc, zero-le}
 use mathlib.Core.Path.{_≡_, refl, sym, ap, ap₂, _∙_, subst}
 use mathlib.Core.Logic.{_⊎_, inl, inr}
 use mathlib.Core.Bool.{Bool, true, false, not, _&&_, _||_, cond}
 use mathlib.Core.Option.{Option, none, some, Option·some-injective, Option·none-ne-some}
-use mathlib.Core.List.{List, [], _∷_, map, List·Memᴰ, List·Memᴰ·head, List·Memᴰ·tail, List·Memᴰ·not-nil, List·Memᴰ·cases-cons}
+use mathlib.Core.List.{List, [], _∷_, _++_, map, List·Memᴰ, List·Memᴰ·head, List·Memᴰ·tail, List·Memᴰ·not-nil, List·Memᴰ·cases-cons, List·Memᴰ·append-cases, Memᴰ·of-map}
 use native.Mathlib.Nat.{zero-lt-suc, not-suc-le-zero, le-of-suc-le-suc}
 use native.Mathlib.Omega.{arith}
 use lib.Dec.{T}
-use lib.ListN.{length, getD, take, drop}
+use lib.ListN.{length, getD, set, take, drop, replicate, length-append, length-replicate}
 use lib.Ieee.Fits.{and-l, and-r, and-i}
-use Rattle.model.specs.Lists.{In, cons-if, cons-some, keep, any, all, first, head, last, front, insert, sort, tab, maybe, collect, fold}
+use Rattle.model.specs.Lists.{In, cons-if, cons-some, keep, any, all, first, head, last, front, insert, sort, tab, pad, maybe, collect, fold}
 
 pub or-l : (a b : Bool) → T a → T (a || b)
 or-l true b t = tt
@@ -211,3 +211,55 @@ module _ {A B : Type 0} where
       go : (o : Option B) → f x ≡ o → (In y (collect f xs) → (u : A) × In u xs × (f u ≡ some y)) → In y (cons-some o (collect f xs)) → (u : A) × In u (x ∷ xs) × (f u ≡ some y)
       go none e ih m = let k = ih m in (k .0, List·Memᴰ·tail (k .1), k .2)
       go (some z) e ih m = elim (List·Memᴰ·cases-cons m) [ inl p ↦ (x, here, e ∙ ap some (sym p)) | inr j ↦ let k = ih j in (k .0, List·Memᴰ·tail (k .1), k .2) ]
+
+-- ---- what holds of every entry, and what a fold keeps
+
+abbrev pub Every : {A : Type 0} → (A → Type 0) → List A → Type 0
+Every {A} Q xs = (x : A) → In x xs → Q x
+
+module _ {A : Type 0} (Q : A → Type 0) where
+  pub every-none : Every Q []
+  every-none x m = absurd (List·Memᴰ·not-nil m)
+
+  pub every-cons : {x : A} {xs : List A} → Q x → Every Q xs → Every Q (x ∷ xs)
+  every-cons h k y m = elim (List·Memᴰ·cases-cons m) [ inl e ↦ subst Q (sym e) h | inr j ↦ k y j ]
+
+  pub every-append : (xs : List A) {ys : List A} → Every Q xs → Every Q ys → Every Q (xs ++ ys)
+  every-append xs h k y m = elim (List·Memᴰ·append-cases xs m) [ inl j ↦ h y j | inr j ↦ k y j ]
+
+  pub every-map : {B : Type 0} (f : B → A) (xs : List B) → Every (λ (x : B). Q (f x)) xs → Every Q (map f xs)
+  every-map f xs h y m = let k = Memᴰ·of-map f xs m in subst Q (k .2) (h (k .0) (k .1))
+
+  pub every-snoc : (xs : List A) (x : A) → Every Q xs → Q x → Every Q (xs ++ x ∷ [])
+  every-snoc xs x h k = every-append xs h (every-cons k every-none)
+
+  pub every-set : (xs : List A) (i : ℕ) (x : A) → Every Q xs → Q x → Every Q (set xs i x)
+  every-set [] i x h k = h
+  every-set (y ∷ ys) zero x h k = every-cons k (λ z m. h z (List·Memᴰ·tail m))
+  every-set (y ∷ ys) (suc i) x h k = every-cons (h y here) (every-set ys i x (λ z m. h z (List·Memᴰ·tail m)) k)
+
+  every-replicate : (n : ℕ) (d : A) → Q d → Every Q (replicate n d)
+  every-replicate zero d h = every-none
+  every-replicate (suc n) d h = every-cons h (every-replicate n d h)
+
+  pub every-pad : (n : ℕ) (d : A) (xs : List A) → Q d → Every Q xs → Every Q (pad n d xs)
+  unfolding pad
+  every-pad n d xs h k = every-append xs k (every-replicate (n - length xs) d h)
+
+pub fold-holds : {A B : Type 0} (Q : B → Type 0) (f : B → A → B) (b : B) (xs : List A) → Q b → ((x : A) → In x xs → (c : B) → Q c → Q (f c x)) → Q (fold f b xs)
+unfolding fold
+fold-holds Q f b [] h k = h
+fold-holds Q f b (x ∷ xs) h k = fold-holds Q f (f b x) xs (k x here b h) (λ y m. k y (List·Memᴰ·tail m))
+
+-- ---- lengths
+
+module _ {A : Type 0} where
+  pub length-front : (xs : List A) → length (front xs) ≤ length xs
+  unfolding front
+  length-front [] = zero-le
+  length-front (x ∷ []) = zero-le
+  length-front (x ∷ y ∷ ys) = let h = length-front (y ∷ ys) in omega arith
+
+  pub length-pad : (n : ℕ) (d : A) (xs : List A) → length xs ≤ n → length (pad n d xs) ≡ n
+  unfolding pad
+  length-pad n d xs h = length-append xs (replicate (n - length xs) d) ∙ rw (length-replicate (n - length xs) d) (omega arith)

@@ -148,6 +148,14 @@ lists-good s c = all-of
     ∷ every (entry-good s c) (c .e) 0
     ∷ [])
 
+-- Where road r stands in the lists: at one place, in its source's part.
+pub record Listed (s : List ℕ) (c : Counts) (r : ℕ) : Type 0 where
+  pub place : ℕ
+  pub below : place < c .e
+  pub is : entry-of s c place ≡ r
+  pub inside : in-part s c (source-of s c r) place ≡ true
+  pub once : (j : ℕ) → j < c .e → entry-of s c j ≡ r → j ≡ place
+
 -- ---- refusal 5: the rows and the goals
 
 abbrev pub row-rises : List ℕ → Counts → ℕ → Bool
@@ -209,7 +217,9 @@ pub record Sound (s : List ℕ) (c : Counts) : Type 0 where
 
 -- A sheet that rows 1 to 5 let pass is well-formed; c are the counts of its header.
 pub record WellFormed (s : List ℕ) (c : Counts) : Type 0 where
-  pub counts : c ≡ counts-of s
+  pub header : c ≡ counts-of s
+  pub counts : counts-good c ≡ true
+  pub offsets : offsets-good s c ≡ true
   pub sound : Sound s c
   pub lists : lists-good s c ≡ true
   pub rows : rows-good s c ≡ true

@@ -16,3 +16,4 @@ pub mod Ends
 pub mod Call
 pub mod Build
 pub mod Marked
+pub mod Edges

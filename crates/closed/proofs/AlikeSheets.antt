@@ -1,0 +1,256 @@
+-- Demand 3 of parsed sheets. A road that a leg permits or a row names is not closed, so alike sheets have equal views and equal outcomes; and the roads of a course are the same on both.
+use Prim.Native.Nat.{ℕ, _+_, _≤_, _<_, min}
+use mathlib.Core.Path.{_≡_, refl, sym, ap, ap₂, _∙_, subst}
+use mathlib.Core.Bool.{Bool, true, false, not, _&&_, _||_, cond}
+use mathlib.Core.Option.{Option, none, some}
+use mathlib.Core.List.{List, map}
+use native.Mathlib.Omega.{arith}
+use lib.Dec.{T, not-T, T-not, eqb, leb, ltb, eqb-refl, ltb→lt, leb→le}
+use lib.ListN.{length, getD}
+use lib.Ieee.{Float}
+use lib.Ieee.Bits.{is-false}
+use lib.Ieee.Fits.{and-l, and-r}
+use Rattle.model.specs.declared.Settings.{Settings}
+use Rattle.model.specs.declared.Row.{Row}
+use Rattle.model.specs.declared.Road.{Road}
+use Rattle.model.specs.Numbers.{f0}
+use Rattle.model.specs.Lists.{In, keep, any, all, front, head, last, pad, maybe}
+use Rattle.model.specs.Sheet.{Stop, Sheet, road-at, list-at, leaving-roads}
+use Rattle.model.specs.View.{raised, limits-of, is-slip, allows, Spot, Place, Leg, View, spot-of, place-of, leg-of, leg-stops, distances-to, view}
+use Rattle.model.specs.Search.{Searcher, bounded-astar}
+use Rattle.model.specs.Legs.{Coverage}
+use Rattle.model.specs.Decode.{Course, Outcome, outcome}
+use Rattle.model.specs.Decode as outcomes
+use Rattle.model.specs.Ends.{Ends, ends-of, finalize-path, part-of, offset-fraction}
+use Rattle.model.specs.Call.{Areas, Lists, Match, Decoded, written, match-of, answered, roomy, untouched, decode-by, decode-sheet}
+use Rattle.model.specs.Call as call
+use Rattle.model.proofs.Members.{all-at, any-of, keep-keep, in-keep, map-eq, keep-map, in-head, in-last, Every, every-map}
+use Rattle.bounds.specs.Formed.{Formed}
+use Rattle.bounds.proofs.CourseRoads.{course-roads}
+use Rattle.closed.specs.Closed.{exceeds, named, is-closed, is-open, Core, refusal, match, core}
+
+-- ---- alike sheets
+
+-- Every road of a that is not closed there is the same on b.
+abbrev pub AgreeSheets : Sheet → Sheet → Type 0
+AgreeSheets a b = (i : ℕ) → i < length (a .roads) → is-closed a i ≡ false → road-at a i ≡ road-at b i
+
+-- What of alike sheets the proof uses.
+pub record AlikeSheets (a b : Sheet) : Type 0 where
+  pub kind : a .kind ≡ b .kind
+  pub nodes : a .nodes ≡ b .nodes
+  pub settings : a .settings ≡ b .settings
+  pub stops : a .stops ≡ b .stops
+  pub goals : a .goals ≡ b .goals
+  pub agree : AgreeSheets a b
+  pub order : (v : ℕ) → keep (is-open a) (list-at a v) ≡ keep (is-open b) (list-at b v)
+
+-- ---- one sheet
+
+-- where the second of two fails, the first holds
+or-not : (a b : Bool) → T (a || b) → T (not b) → T a
+or-not true b t n = tt
+or-not false true t n = absurd n
+or-not false false t n = absurd t
+
+-- a limit that is exceeded lets slip roads pass only
+clash : (tolerance limit : ℕ) (r : Road) → T (allows (raised tolerance limit) r) → T (exceeds tolerance limit (r .frc)) → T (not (is-slip r)) → ⊥
+unfolding allows raised exceeds
+clash tolerance limit r t e n =
+    let limited : eqb limit 255 ≡ false = is-false (eqb limit 255) (and-l (not (eqb limit 255)) (ltb (limit + tolerance) (r .frc)) e) in
+    let above : limit + tolerance < r .frc = ltb→lt (limit + tolerance) (r .frc) (and-r (not (eqb limit 255)) (ltb (limit + tolerance) (r .frc)) e) in
+    let within : r .frc ≤ raised tolerance limit = leb→le (r .frc) (raised tolerance limit) (or-not (leb (r .frc) (raised tolerance limit)) (is-slip r) t n) in
+    let capped : r .frc ≤ min 7 (limit + tolerance) = rw limited at within in
+    omega arith
+
+module _ (t : Sheet) where
+  abbrev tolerance : ℕ
+  tolerance = t .settings .«frc_tolerance»
+
+  abbrev class : Stop → ℕ
+  class p = raised tolerance (p .point .limit)
+
+  module _ (i : ℕ) where
+    abbrev away : Bool
+    away = not (is-slip (road-at t i))
+
+    abbrev beyond : Bool
+    beyond = all (λ p. exceeds tolerance (p .point .limit) (road-at t i .frc)) (leg-stops t)
+
+    -- what it means that road i is closed, part by part
+    closed-away : T (is-closed t i) → T away
+    unfolding is-closed
+    closed-away c = and-l away beyond (and-l (away && beyond) (not (named t i)) c)
+
+    closed-beyond : T (is-closed t i) → T beyond
+    unfolding is-closed
+    closed-beyond c = and-r away beyond (and-l (away && beyond) (not (named t i)) c)
+
+    closed-unnamed : T (is-closed t i) → T (not (named t i))
+    unfolding is-closed
+    closed-unnamed c = and-r (away && beyond) (not (named t i)) c
+
+    open-not-closed : T (is-open t i) → is-closed t i ≡ false
+    unfolding is-open
+    open-not-closed o = is-false (is-closed t i) o
+
+  -- a road that a leg permits is not closed
+  permitted-open : (p : Stop) → In p (leg-stops t) → (i : ℕ) → T (allows (class p) (road-at t i)) → T (is-open t i)
+  unfolding is-open
+  permitted-open p m i h = not-T (is-closed t i) (λ c.
+      clash tolerance (p .point .limit) (road-at t i) h (all-at (λ q. exceeds tolerance (q .point .limit) (road-at t i .frc)) (closed-beyond i c) m) (closed-away i c))
+
+  -- nor is one that a row names
+  named-open : (p : Stop) → In p (t .stops) → (w : Row) → In w (p .rows) → T (is-open t (w .road))
+  unfolding named is-open
+  named-open p m w n = not-T (is-closed t (w .road)) (λ c. T-not (named t (w .road)) (closed-unnamed (w .road) c)
+      (any-of (λ q. any (λ v. eqb (v .road) (w .road)) (q .rows)) m (any-of (λ v. eqb (v .road) (w .road)) n (eqb-refl (w .road)))))
+
+  -- a leg sees no closed road at a node
+  leaving-open : (p : Stop) → In p (leg-stops t) → (v : ℕ) → keep (allows (class p)) (leaving-roads t v) ≡ keep (allows (class p)) (map (road-at t) (keep (is-open t) (list-at t v)))
+  leaving-open p m v =
+      keep-map (road-at t) (allows (class p)) (list-at t v)
+      ∙ ap (map (road-at t)) (keep-keep (λ i. allows (class p) (road-at t i)) (is-open t) (permitted-open p m) (list-at t v))
+      ∙ sym (keep-map (road-at t) (allows (class p)) (keep (is-open t) (list-at t v)))
+
+-- ---- the core of an answer, by the test of the areas and the outcome
+
+abbrev core-of : Outcome → Core
+core-of (outcomes.refused n x y) = refusal n x y
+core-of (outcomes.matched k c) = match (k .total) (c .road .id) (c .metres)
+
+core-answered : (t : Sheet) (l : Lists) (o : Outcome) → core (answered t l o .answer) ≡ core-of o
+unfolding core answered match-of
+core-answered t l (outcomes.refused n x y) = refl
+core-answered t l (outcomes.matched k c) = refl
+
+core-decode : (t : Sheet) (s : Areas) (l : Lists) → core (decode-sheet t s l .answer) ≡ cond (roomy (length (t .stops)) (t .nodes) s l) (core-of (outcome (view t) (bounded-astar (s .heap)))) (refusal 6 0 0)
+unfolding decode-sheet decode-by untouched core
+core-decode t s l = go (roomy (length (t .stops)) (t .nodes) s l)
+  where
+    go : (r : Bool) → core (cond r (answered t l (outcome (view t) (bounded-astar (s .heap)))) (untouched 6 0 l) .answer) ≡ cond r (core-of (outcome (view t) (bounded-astar (s .heap)))) (refusal 6 0 0)
+    go true = core-answered t l (outcome (view t) (bounded-astar (s .heap)))
+    go false = refl
+
+-- ---- two sheets
+
+module _ (a b : Sheet) (form : Formed a) (h : AlikeSheets a b) where
+  -- the views are equal
+  roads-eq : (v : ℕ) → map (road-at a) (keep (is-open a) (list-at a v)) ≡ map (road-at b) (keep (is-open b) (list-at b v))
+  roads-eq v =
+      map-eq (road-at a) (road-at b) (keep (is-open a) (list-at a v))
+      (λ i m. let k = in-keep (is-open a) (list-at a v) m in h .agree i (form .lists v i (k .0) .0) (open-not-closed a i (k .1)))
+      ∙ ap (map (road-at b)) (h .order v)
+
+  leaving-eq : (p : Stop) → In p (leg-stops a) → (v : ℕ) → leg-of a p .leaving v ≡ leg-of b p .leaving v
+  unfolding limits-of
+  leaving-eq p m v =
+      leaving-open a p m v
+      ∙ ap₂ (λ (c : Settings) (rs : List Road). keep (allows (raised (c .«frc_tolerance») (p .point .limit))) rs) (h .settings) (roads-eq v)
+      ∙ sym (leaving-open b p (subst (λ (ps : List Stop). In p (front ps)) (h .stops) m) v)
+
+  leg-eq : (p : Stop) → In p (leg-stops a) → leg-of a p ≡ leg-of b p
+  leg-eq p m i = record { limits = limits-of (h .settings i) (p .point); leaving = λ v. leaving-eq p m v i }
+
+  -- the road that a row names is the same on both
+  named-eq : (p : Stop) → In p (a .stops) → (w : Row) → In w (p .rows) → road-at a (w .road) ≡ road-at b (w .road)
+  named-eq p m w n = h .agree (w .road) (form .rows p m w n .road) (open-not-closed a (w .road) (named-open a p m w n))
+
+  place-eq : (p : Stop) → In p (a .stops) → place-of a p ≡ place-of b p
+  place-eq p m i = record { point = p .point; spots = map-eq (spot-of a) (spot-of b) (p .rows) (λ w n j. record { row = w; road = named-eq p m w n j }) i }
+
+  pub view-eq : view a ≡ view b
+  unfolding view
+  view-eq i = record {
+    kind = h .kind i;
+    nodes = h .nodes i;
+    settings = h .settings i;
+    places = (map-eq (place-of a) (place-of b) (a .stops) place-eq ∙ ap (map (place-of b)) (h .stops)) i;
+    legs = (map-eq (leg-of a) (leg-of b) (leg-stops a) leg-eq ∙ ap (λ (ps : List Stop). map (leg-of b) (front ps)) (h .stops)) i;
+    to-goal = λ g v. getD (distances-to (h .goals i) g) v f0;
+  }
+
+  outcome-eq : (search : Searcher) → outcome (view a) search ≡ outcome (view b) search
+  outcome-eq search = ap (λ (v : View). outcome v search) view-eq
+
+  roomy-eq : (s : Areas) (l : Lists) → roomy (length (a .stops)) (a .nodes) s l ≡ roomy (length (b .stops)) (b .nodes) s l
+  roomy-eq s l = ap₂ (λ (ps : List Stop) (n : ℕ). roomy (length ps) n s l) (h .stops) (h .nodes)
+
+  -- the first half of the demand
+  pub same-core : (s : Areas) (l : Lists) → core (decode-sheet a s l .answer) ≡ core (decode-sheet b s l .answer)
+  same-core s l =
+      core-decode a s l
+      ∙ ap₂ (λ (r : Bool) (o : Outcome). cond r (core-of o) (refusal 6 0 0)) (roomy-eq s l) (outcome-eq (bounded-astar (s .heap)))
+      ∙ sym (core-decode b s l)
+
+  -- ---- a matched course
+
+  -- road i is the same on both
+  abbrev Same : ℕ → Type 0
+  Same i = road-at a i ≡ road-at b i
+
+  -- an open road's number finds the same road on both
+  open-same : (i : ℕ) → i < length (a .roads) → T (is-open a i) → Same (road-at a i .number)
+  open-same i m o = subst Same (sym (form .numbered i m)) (h .agree i m (open-not-closed a i o))
+
+  -- so the numbers of a matched course find the same roads
+  course-same : (slots : ℕ) (k : Course) (c : Coverage) → outcome (view a) (bounded-astar slots) ≡ outcomes.matched k c → Every Same (ends-of k .path)
+  unfolding view limits-of
+  course-same slots k c e = every-map Same (λ (r : Road). r .number) (k .roads) (course-roads a form (λ (r : Road). Same (r .number)) record { rows = rows; ways = ways } slots k c e)
+    where
+      rows : (p : Stop) → In p (a .stops) → (w : Row) → In w (p .rows) → Same (road-at a (w .road) .number)
+      rows p m w n = open-same (w .road) (form .rows p m w n .road) (named-open a p m w n)
+
+      ways : (p : Stop) → In p (leg-stops a) → (u : ℕ) (r : Road) → In r (leg-of a p .leaving u) → Same (r .number)
+      ways p m u r n =
+          every-map (λ (r : Road). Same (r .number)) (road-at a) (keep (λ i. allows (class a p) (road-at a i)) (list-at a u)) (λ i j.
+          let k = in-keep (λ i. allows (class a p) (road-at a i)) (list-at a u) j in
+          open-same i (form .lists u i (k .0) .0) (permitted-open a p m i (k .1)))
+          r (subst (In r) (keep-map (road-at a) (allows (class a p)) (list-at a u)) n)
+
+  -- an answer reads the sheet only at the numbers of its path
+  fraction-eq : (offset : Float) (path : List ℕ) (o : Option ℕ) → ((x : ℕ) → o ≡ some x → In x path) → Every Same path → offset-fraction a offset o ≡ offset-fraction b offset o
+  unfolding offset-fraction maybe
+  fraction-eq offset path none m s = refl
+  fraction-eq offset path (some x) m s = ap (λ (r : Road). part-of offset (r .metres)) (s x (m x refl))
+
+  match-eq : (k : Course) (c : Coverage) (e : Ends) → Every Same (e .path) → match-of a k c e ≡ match-of b k c e
+  unfolding match-of
+  match-eq k c e s i = record {
+    count = length (e .path);
+    length-m = k .total;
+    start-offset = e .start-offset;
+    start-fraction = fraction-eq (e .start-offset) (e .path) (head (e .path)) (in-head (e .path)) s i;
+    end-offset = e .end-offset;
+    end-fraction = fraction-eq (e .end-offset) (e .path) (last (e .path)) (in-last (e .path)) s i;
+    primary = c .road .id;
+    coverage = c .metres;
+  }
+
+  written-eq : (path : List ℕ) (l : Lists) → Every Same path → written a path l ≡ written b path l
+  unfolding written
+  written-eq path l s i = record {
+    ids = pad (length (l .ids)) 0 (map-eq (λ r. road-at a r .id) (λ r. road-at b r .id) path (λ x m j. s x m j .id) i);
+    lengths = pad (length (l .lengths)) f0 (map-eq (λ r. road-at a r .metres) (λ r. road-at b r .metres) path (λ x m j. s x m j .metres) i);
+  }
+
+  -- ---- the whole answer, where no end of a course moves on either sheet
+
+  module _ (still-a : (k : Course) → finalize-path a k ≡ ends-of k) (still-b : (k : Course) → finalize-path b k ≡ ends-of k) where
+    answered-eq : (slots : ℕ) (l : Lists) (o : Outcome) → outcome (view a) (bounded-astar slots) ≡ o → answered a l o ≡ answered b l o
+    unfolding answered written
+    answered-eq slots l (outcomes.refused n x y) e = refl
+    answered-eq slots l (outcomes.matched k c) e =
+        let same = course-same slots k c e in
+        ap (from a) (still-a k)
+        ∙ ap₂ (λ (m : Match) (w : Lists). record { answer = call.matched m; lists = w }) (match-eq k c (ends-of k) same) (written-eq (ends-of k .path) l same)
+        ∙ sym (ap (from b) (still-b k))
+      where
+        from : Sheet → Ends → Decoded
+        from t e = record { answer = call.matched (match-of t k c e); lists = written t (e .path) l }
+
+    -- the second half
+    pub same-whole : (s : Areas) (l : Lists) → decode-sheet a s l ≡ decode-sheet b s l
+    unfolding decode-sheet decode-by
+    same-whole s l = ap₂ (λ (r : Bool) (d : Decoded). cond r d (untouched 6 0 l)) (roomy-eq s l)
+        (answered-eq (s .heap) l (outcome (view a) (bounded-astar (s .heap))) refl ∙ ap (answered b l) (outcome-eq (bounded-astar (s .heap))))

@@ -1,0 +1,4 @@
+pub mod SharpProof
+pub mod AlikeSheets
+pub mod AlikeBytes
+pub mod ClosedProof
