@@ -8,7 +8,7 @@ use native.Mathlib.Omega.{arith}
 use lib.Dec.{T, not-T, T-not, eqb, leb, ltb, eqb-refl, ltb→lt, leb→le}
 use lib.ListN.{length, getD}
 use lib.Ieee.{Float}
-use lib.Ieee.Bits.{is-false}
+use lib.Ieee.Bits.{is-true, is-false}
 use lib.Ieee.Fits.{and-l, and-r}
 use Rattle.model.specs.declared.Settings.{Settings}
 use Rattle.model.specs.declared.Row.{Row}
@@ -25,6 +25,7 @@ use Rattle.model.specs.Ends.{Ends, ends-of, finalize-path, part-of, offset-frac
 use Rattle.model.specs.Call.{Areas, Lists, Match, Decoded, written, match-of, answered, roomy, untouched, decode-by, decode-sheet}
 use Rattle.model.specs.Call as call
 use Rattle.model.proofs.Members.{all-at, any-of, keep-keep, in-keep, map-eq, keep-map, in-head, in-last, Every, every-map}
+use Rattle.model.proofs.Judging.{all-of-at}
 use Rattle.bounds.specs.Formed.{Formed}
 use Rattle.bounds.proofs.CourseRoads.{course-roads}
 use Rattle.closed.specs.Closed.{exceeds, named, is-closed, is-open, Core, refusal, match, core}
@@ -71,24 +72,18 @@ module _ (t : Sheet) where
   class p = raised tolerance (p .point .limit)
 
   module _ (i : ℕ) where
-    abbrev away : Bool
-    away = not (is-slip (road-at t i))
-
-    abbrev beyond : Bool
-    beyond = all (λ p. exceeds tolerance (p .point .limit) (road-at t i .frc)) (leg-stops t)
-
-    -- what it means that road i is closed, part by part
-    closed-away : T (is-closed t i) → T away
+    -- what it means that road i is closed, test by test
+    closed-away : T (is-closed t i) → T (not (is-slip (road-at t i)))
     unfolding is-closed
-    closed-away c = and-l away beyond (and-l (away && beyond) (not (named t i)) c)
+    closed-away c = subst T (sym (all-of-at _ (is-true (is-closed t i) c) 0)) tt
 
-    closed-beyond : T (is-closed t i) → T beyond
+    closed-beyond : T (is-closed t i) → T (all (λ p. exceeds tolerance (p .point .limit) (road-at t i .frc)) (leg-stops t))
     unfolding is-closed
-    closed-beyond c = and-r away beyond (and-l (away && beyond) (not (named t i)) c)
+    closed-beyond c = subst T (sym (all-of-at _ (is-true (is-closed t i) c) 1)) tt
 
     closed-unnamed : T (is-closed t i) → T (not (named t i))
     unfolding is-closed
-    closed-unnamed c = and-r (away && beyond) (not (named t i)) c
+    closed-unnamed c = subst T (sym (all-of-at _ (is-true (is-closed t i) c) 2)) tt
 
     open-not-closed : T (is-open t i) → is-closed t i ≡ false
     unfolding is-open

@@ -2,13 +2,14 @@
 use Prim.Native.Nat.{ℕ, _+_, _<_}
 use mathlib.Core.Path.{_≡_}
 use mathlib.Core.Bool.{Bool, true, false, not, _&&_}
-use mathlib.Core.List.{List}
+use mathlib.Core.List.{List, [], _∷_}
 use lib.Dec.{eqb, ltb}
 use lib.ListN.{length}
 use lib.Ieee.{Float, eq}
 use Rattle.model.specs.declared.Judged.the-variants.{Fine}
 use Rattle.model.specs.Numbers.{f0}
 use Rattle.model.specs.Lists.{keep, any, all}
+use Rattle.model.specs.Table.{all-of}
 use Rattle.model.specs.Layout.{counts-of, settings-bytes, points-bytes, road-bytes, rows-bytes, distances-bytes}
 use Rattle.model.specs.Judge.{judged}
 use Rattle.model.specs.Sheet.{Sheet, sheet-of, road-at, list-at}
@@ -27,10 +28,11 @@ named t i = any (λ p. any (λ w. eqb (w .road) i) (p .rows)) (t .stops)
 
 -- Road i is closed: no slip road, every leg has a class limit that its class number exceeds, and no projection names it.
 unfoldable pub is-closed : Sheet → ℕ → Bool
-is-closed t i =
-    not (is-slip (road-at t i))
-    && all (λ p. exceeds (t .settings .«frc_tolerance») (p .point .limit) (road-at t i .frc)) (leg-stops t)
-    && not (named t i)
+is-closed t i = all-of
+    (not (is-slip (road-at t i))
+    ∷ all (λ p. exceeds (t .settings .«frc_tolerance») (p .point .limit) (road-at t i .frc)) (leg-stops t)
+    ∷ not (named t i)
+    ∷ [])
 
 unfoldable pub is-open : Sheet → ℕ → Bool
 is-open t i = not (is-closed t i)

@@ -96,16 +96,16 @@ candidate-on number distance score = record {
 abbrev pub pair-at : ℕ → ℕ → Pair
 pair-at a b = pair (candidate-on 0 a 0) (candidate-on 0 b 0)
 
--- Over three roads with heap 2: the search makes two entries.
-abbrev pub three-match : Match
-three-match = record {
+-- from the middle of the first of the three roads to the middle of the last, with the middle one's id
+abbrev pub three-match : ℕ → Match
+three-match id = record {
   count = 3;
   length-m = nat 200;
   start-offset = nat 50;
   start-fraction = bits 0x3FE0_0000_0000_0000;
   end-offset = nat 50;
   end-fraction = bits 0x3FE0_0000_0000_0000;
-  primary = 701;
+  primary = id;
   coverage = nat 100;
 }
 
@@ -116,18 +116,6 @@ three-lists a b c = record { ids = a ∷ b ∷ c ∷ replicate 253 0; lengths = 
 -- written once and its two coverages are summed, by number.
 abbrev pub two-legs : List ℕ
 two-legs = three-roads 1 (700 ∷ 700 ∷ 702 ∷ []) (point 100 3 3 3 1 ∷ point 100 3 3 3 1 ∷ last-point 1 ∷ []) (middle-of-road 0 ∷ middle-of-road 1 ∷ middle-of-road 2 ∷ []) (to-node 1 ∷ to-node 2 ∷ [])
-
-abbrev pub two-legs-match : Match
-two-legs-match = record {
-  count = 3;
-  length-m = nat 200;
-  start-offset = nat 50;
-  start-fraction = bits 0x3FE0_0000_0000_0000;
-  end-offset = nat 50;
-  end-fraction = bits 0x3FE0_0000_0000_0000;
-  primary = 700;
-  coverage = nat 100;
-}
 
 -- One point with two rows and one candidate kept: the better one lies 40 m off, the other 10 m. The closest-candidate rule sees only the first.
 abbrev pub cut-first : List ℕ
@@ -178,9 +166,10 @@ pub record OtherEdges : Type 0 where
   pub exactly-5 : (excellent (pair-at 4 4) ≡ true) × (excellent (pair-at 4 5) ≡ false)
   pub start-is-goal : (v : View) (search : Searcher) (leg : Leg) (n : ℕ) (bound : Float) → seek-of v search leg n n bound ≡ found f0 []
   pub bearing-360 : bearing-difference (nat 360) f0 ≡ f0
-  pub exact-heap : decode (over-three 1) (heap-of 2) lists ≡ record { answer = matched three-match; lists = three-lists 700 701 702 }
-  pub along-line : decode (over-three 2) (heap-of 2) lists ≡ record { answer = matched three-match; lists = three-lists 700 701 702 }
-  pub summed-by-number : decode two-legs (heap-of 1) lists ≡ record { answer = matched two-legs-match; lists = three-lists 700 700 702 }
+  -- the search makes two entries
+  pub exact-heap : decode (over-three 1) (heap-of 2) lists ≡ record { answer = matched (three-match 701); lists = three-lists 700 701 702 }
+  pub along-line : decode (over-three 2) (heap-of 2) lists ≡ record { answer = matched (three-match 701); lists = three-lists 700 701 702 }
+  pub summed-by-number : decode two-legs (heap-of 1) lists ≡ record { answer = matched (three-match 700); lists = three-lists 700 700 702 }
   pub cut-before-closest : decode cut-first areas lists ≡ refusal 9 0 0
   pub walk-any-class : decode longer areas lists ≡ record { answer = matched longer-match; lists = record { ids = 700 ∷ 701 ∷ replicate 254 0; lengths = nat 100 ∷ nat 20 ∷ replicate 254 f0 } }
   pub access-track : is-access-road (116 ∷ 114 ∷ 97 ∷ 99 ∷ 107 ∷ []) ≡ true
