@@ -38,6 +38,7 @@ unfolding computes
 other-edges = record {
   exactly-10 = (refl, refl);
   exactly-5 = (refl, refl);
+  excellent-length = refl;
   start-is-goal = start-is-goal;
   bearing-360 = refl;
   exact-heap = refl;

@@ -105,7 +105,7 @@ candidate c p s = let x = candidate-of c p s in when (passes c x) x
 unfoldable pub better : Candidate → Candidate → Bool
 better a b = a .score <ᶠ b .score || (eq (a .score) (b .score) && ltb (a .road .number) (b .road .number))
 
--- sorted, then cut to the most candidates
+-- Sorted, then cut to the most candidates. That the last point looks Backward is in the host's measured bearings.
 unfoldable pub find-candidates : Settings → Place → List Candidate
 find-candidates c p = take (c .«max_candidates») (sort better (collect (candidate c (p .point)) (p .spots)))
 

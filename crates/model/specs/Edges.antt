@@ -161,9 +161,38 @@ longer-match = record {
   coverage = nat 50;
 }
 
+-- One road of 1000 m with a DNP of 50: 400 metres are over the greatest length of 150, but the points lie on the road. Offsets 250 and 350.
+abbrev pub far-on-road : List ℕ
+far-on-road = sheet-bytes record {
+  kind = 1;
+  nodes = 2;
+  settings = default-settings;
+  points = first-point 1 ∷ last-point 1 ∷ [];
+  roads = road 700 1000 0 1 3 3 0 ∷ [];
+  starts = 0 ∷ 1 ∷ 1 ∷ [];
+  numbers = 0 ∷ [];
+  rows = row 0 0 90 250 1000 ∷ row 0 0 90 650 1000 ∷ [];
+  from-first = 0 ∷ 0 ∷ [];
+  from-last = 0 ∷ 0 ∷ [];
+  goals = goal 0 (0 ∷ 0 ∷ []) ∷ [];
+}
+
+abbrev pub far-match : Match
+far-match = record {
+  count = 1;
+  length-m = bits 0x4079_0000_0000_0000;
+  start-offset = bits 0x406F_4000_0000_0000;
+  start-fraction = bits 0x3FD0_0000_0000_0000;
+  end-offset = bits 0x4075_E000_0000_0000;
+  end-fraction = bits 0x3FD6_6666_6666_6666;
+  primary = 700;
+  coverage = bits 0x4079_0000_0000_0000;
+}
+
 pub record OtherEdges : Type 0 where
   pub exactly-10 : (close limits (pair-at 10 10) ≡ true) × (close limits (pair-at 10 11) ≡ false)
   pub exactly-5 : (excellent (pair-at 4 4) ≡ true) × (excellent (pair-at 4 5) ≡ false)
+  pub excellent-length : decode far-on-road areas lists ≡ record { answer = matched far-match; lists = record { ids = 700 ∷ replicate 255 0; lengths = nat 1000 ∷ replicate 255 f0 } }
   pub start-is-goal : (v : View) (search : Searcher) (leg : Leg) (n : ℕ) (bound : Float) → seek-of v search leg n n bound ≡ found f0 []
   pub bearing-360 : bearing-difference (nat 360) f0 ≡ f0
   -- the search makes two entries

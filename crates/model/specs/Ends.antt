@@ -134,7 +134,7 @@ at-start t cap e =
     (record { path = reverse (w .added) ++ e .path; offset = e .offset ⊕ w .metres })
     e)))
 
--- The whole path and its offsets in metres.
+-- The whole path and its offsets in metres: those of the projections, the reference's own are not on the sheet.
 pub record Ends : Type 0 where
   pub path : List ℕ
   pub start-offset : Float

@@ -24,7 +24,7 @@ most-goals = 1024
 abbrev pub most-measured : ℕ
 most-measured = 64
 
--- The kinds: 1 line, 2 point along line, to 9 closed line.
+-- The kinds: 1 line, 2 point along line, 3 to 9 GeoCoordinate, Poi, Circle, Rectangle, Grid, Polygon, ClosedLine.
 abbrev pub line : ℕ
 line = 1
 
@@ -62,7 +62,7 @@ numbers-at c = lists-at c + (c .n + 1) * 4
 abbrev pub rows-at : Counts → ℕ
 rows-at c = numbers-at c + c .e * 4
 
--- the distances: N from the first point, N from the last, then the goal rows
+-- the distances: N from the first point, N from the last (for P = 0 too), then the goal rows
 abbrev pub distances-at : Counts → ℕ
 distances-at c = rows-at c + c .m * 40
 
