@@ -56,6 +56,7 @@ unfolding computes
 ties = record {
   equal-parent = refl;
   equal-children = refl;
+  drawn = refl;
   first-label = refl;
   list-order = refl;
   one-slot-less = refl;

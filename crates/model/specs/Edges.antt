@@ -219,6 +219,10 @@ way number source target metres access = record { number = number; id = 0; metre
 abbrev pub to-three : List (List Road) → List Float → ℕ → Query
 to-three roads distances bound = record { nodes = 5; leaving = λ v. getD roads v []; penalty = λ r. cond (r .access) (nat 10) f0; ahead = λ v. getD distances v f0; goal = 3; bound = nat bound }
 
+-- the drawing in Search.antt: over 1 it is 20 m, over 2 it is 30
+abbrev pub drawing : Query
+drawing = to-three ((way 0 0 1 10 false ∷ way 2 0 2 10 false ∷ []) ∷ (way 1 1 3 10 false ∷ []) ∷ (way 3 2 3 20 false ∷ []) ∷ []) [] 100
+
 -- 0 to 3 over 1 or over 2, both 20 m; the last road over 1 may be an access road
 abbrev pub upper : Bool → List Road
 upper access = way 0 0 1 10 false ∷ way 1 1 3 10 access ∷ []
@@ -250,6 +254,8 @@ pub record Ties : Type 0 where
   pub equal-parent : push level (0 ∷ []) 1 ≡ 0 ∷ 1 ∷ []
   -- of equal children the right one moves up
   pub equal-children : pop level (0 ∷ 1 ∷ 2 ∷ 3 ∷ []) ≡ 2 ∷ 1 ∷ 3 ∷ []
+  -- the search of the drawing
+  pub drawn : bounded-astar 4 drawing 0 ≡ found (nat 20) (upper false)
   -- among equal routes the one labelled first stays, in the order of the lists and not of the nodes
   pub first-label : bounded-astar 4 upper-first 0 ≡ found (nat 20) (upper false)
   pub list-order : bounded-astar 4 lower-first 0 ≡ found (nat 20) lower

@@ -1,6 +1,6 @@
 -- "The search": bounded_astar.
 --
---     0 --10--> 1 --10--> 3       from 0 to 3 over 1: 20 metres; over 2: 30, which the search drops at 3
+--     0 --10--> 1 --10--> 3       from 0 to 3: found over 1 with 20 metres (`drawn` in Edges.antt)
 --     0 --10--> 2 --20--> 3
 --
 -- The roads leaving a node, their penalties and the distances to the goal are parameters.
