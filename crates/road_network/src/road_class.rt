@@ -1,0 +1,85 @@
+// Road classes and forms of way: what counts as an access road, how forms stand in for each other, how far classes lie apart and which roads a leg may use.
+ghost use mathlib.Core.Path.{_≡_};
+ghost use Prim.Native.Nat.{_≤_};
+ghost use Rattle.model.specs.Candidates.{same-bytes, is-access-road, substitution-score, class-difference};
+ghost use Rattle.model.specs.View.{raised, allows};
+use model::Road;
+
+// Whether two slices hold the same bytes.
+fn same_bytes(a: &[u8], b: &[u8]) -> bool
+    ensures { λ r. ⌜ r ≡ same-bytes (now (a .entry)) (now (b .entry)) ⌝ }
+{
+    if a.len() != b.len() {
+        return false;
+    }
+    let mut i = 0;
+    while i < a.len() {
+        if a[i] != b[i] {
+            return false;
+        }
+        i += 1;
+    }
+    true
+}
+
+// Whether a highway tag is that of an access road: exactly one of four byte strings.
+pub fn is_access_road(tag: &[u8]) -> bool
+    ensures { λ r. ⌜ r ≡ is-access-road (now (tag .entry)) ⌝ }
+{
+    same_bytes(tag, b"residential")
+        || same_bytes(tag, b"living_street")
+        || same_bytes(tag, b"service")
+        || same_bytes(tag, b"track")
+}
+
+// Rows: the point's form of way. Columns: the road's.
+const FOW_SCORE_MATRIX: [[f64; 8]; 8] = [
+    [0.50, 0.50, 0.50, 0.50, 0.50, 0.50, 0.50, 0.50],
+    [0.50, 1.00, 0.75, 0.00, 0.00, 0.00, 0.00, 0.00],
+    [0.50, 0.75, 1.00, 0.75, 0.50, 0.00, 0.00, 0.00],
+    [0.50, 0.00, 0.75, 1.00, 0.50, 0.50, 0.00, 0.00],
+    [0.50, 0.00, 0.50, 0.50, 1.00, 0.50, 0.00, 0.00],
+    [0.50, 0.00, 0.00, 0.50, 0.50, 1.00, 0.00, 0.00],
+    [0.50, 0.00, 0.00, 0.00, 0.00, 0.00, 1.00, 0.00],
+    [0.50, 0.00, 0.00, 0.00, 0.00, 0.00, 0.00, 1.00],
+];
+
+// How well a road of the actual form of way stands in for the wanted one; 0 for a number that is no form of way.
+pub fn substitution_score(wanted: u8, actual: u8) -> f64
+    ensures { λ r. ⌜ r ≡ substitution-score wanted actual ⌝ }
+{
+    if wanted > 7 {
+        return 0.0;
+    }
+    if actual > 7 {
+        return 0.0;
+    }
+    FOW_SCORE_MATRIX[wanted as usize][actual as usize]
+}
+
+// The signed difference of two class numbers, made positive. Classes are 0 to 7, where the i8 is exact from -7 to 7.
+pub fn class_difference(a: u8, b: u8) -> u8
+    requires { ⌜ (a ≤ 7) × (b ≤ 7) ⌝ }
+    ensures { λ r. ⌜ (r ≡ class-difference a b) × (r ≤ 7) ⌝ }
+{
+    let d = (a as i8) - (b as i8);
+    if d < 0 { (-d) as u8 } else { d as u8 }
+}
+
+// The class limit raised by the tolerance and capped at 7; without a limit (255) every class. S6: limit 6 and tolerance 2 give 7.
+pub fn raised(tolerance: u8, limit: u8) -> u8
+    ensures { λ r. ⌜ r ≡ raised tolerance limit ⌝ }
+{
+    if limit == 255 {
+        return 255;
+    }
+    let sum = (limit as u16) + (tolerance as u16);
+    if sum < 7 { sum as u8 } else { 7 }
+}
+
+// Whether a leg with this raised limit may use the road: by its class, or as a slip road.
+pub fn allows(class: u8, r: Road) -> bool
+    ensures { λ b. ⌜ b ≡ allows class r ⌝ }
+{
+    r.frc <= class || r.fow == 6
+}
