@@ -99,6 +99,21 @@ pub struct Neighbour {
     pub outs: usize,
 }
 
+// The greatest counts of a sheet: P, N, E, M, G, the rows of one point, and the most candidates.
+pub const MOST_POINTS: usize = 16;
+
+pub const MOST_NODES: usize = 1024;
+
+pub const MOST_ROADS: usize = 4096;
+
+pub const MOST_ROWS: usize = 1024;
+
+pub const MOST_GOALS: usize = 1024;
+
+pub const MOST_MEASURED: u32 = 64;
+
+pub const MOST_CANDIDATES: u16 = 64;
+
 // The kinds of reference that are decoded.
 pub const LINE: usize = 1;
 
