@@ -1,0 +1,11 @@
+pub mod Passing
+pub mod Sorted
+pub mod Ranked
+pub mod Degrees
+pub mod Weighed
+pub mod SheetFacts
+pub mod Shifted
+pub mod Gathered
+pub mod Turns
+pub mod Rules
+pub mod Pointwise

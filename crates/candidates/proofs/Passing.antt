@@ -1,0 +1,58 @@
+-- `passes` and `better` by the tests that the code makes, in its order.
+use Prim.Native.Nat.{_<_, _≤_}
+use mathlib.Core.Path.{_≡_, refl}
+use mathlib.Core.Bool.{Bool, true, false, _&&_, not}
+use lib.Dec.{ltb}
+use lib.Ieee.{lt, eq}
+use borrow.Author.Tests.{lt-ltb, le-ltb}
+use Rattle.model.specs.declared.Settings.{Settings}
+use Rattle.model.specs.declared.Candidate.{Candidate}
+use Rattle.model.specs.View.{is-slip}
+use Rattle.model.specs.Candidates.{passes, better}
+
+-- its class is too far off, and it is no slip road
+abbrev pub off-class : Settings → Candidate → Bool
+off-class c x = ltb (c .«frc_tolerance») (x .«frc_diff») && not (is-slip (x .road))
+
+and-false : (a : Bool) → (a && false) ≡ false
+and-false true = refl
+and-false false = refl
+
+module _ (c : Settings) (x : Candidate) where
+  pub off : c .«frc_tolerance» < x .«frc_diff» → not (is-slip (x .road)) ≡ true → off-class c x ≡ true
+  off h e = rw (lt-ltb _ _ h, e)
+
+  pub slip : not (is-slip (x .road)) ≡ false → off-class c x ≡ false
+  slip e = rw e (and-false (ltb (c .«frc_tolerance») (x .«frc_diff»)))
+
+  pub near : x .«frc_diff» ≤ c .«frc_tolerance» → off-class c x ≡ false
+  near h = rw (le-ltb _ _ h)
+
+  pub drop-class : off-class c x ≡ true → false ≡ passes c x
+  unfolding passes
+  drop-class e = rw e
+
+  pub drop-distance : off-class c x ≡ false → lt (c .«search_radius_m») (x .distance) ≡ true → false ≡ passes c x
+  unfolding passes
+  drop-distance e f = rw (e, f)
+
+  pub drop-bearing : off-class c x ≡ false → lt (c .«search_radius_m») (x .distance) ≡ false → lt (c .«max_bearing_diff») (x .«bearing_diff») ≡ true → false ≡ passes c x
+  unfolding passes
+  drop-bearing e f g = rw (e, f, g)
+
+  pub kept : off-class c x ≡ false → lt (c .«search_radius_m») (x .distance) ≡ false → lt (c .«max_bearing_diff») (x .«bearing_diff») ≡ false → true ≡ passes c x
+  unfolding passes
+  kept e f g = rw (e, f, g)
+
+module _ (a b : Candidate) where
+  pub by-score : lt (a .score) (b .score) ≡ true → lt (a .score) (b .score) ≡ better a b
+  unfolding better
+  by-score t = simp t
+
+  pub by-number : lt (a .score) (b .score) ≡ false → eq (a .score) (b .score) ≡ true → ltb (a .road .number) (b .road .number) ≡ better a b
+  unfolding better
+  by-number t e = simp (t, e)
+
+  pub by-none : lt (a .score) (b .score) ≡ false → eq (a .score) (b .score) ≡ false → eq (a .score) (b .score) ≡ better a b
+  unfolding better
+  by-none t e = simp (t, e)

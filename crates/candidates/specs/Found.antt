@@ -1,0 +1,53 @@
+-- The candidates of a point of the parsed sheet, and what a list of them holds.
+use Prim.Native.Nat.{ℕ, _≤_, _<_}
+use mathlib.Core.Path.{_≡_}
+use mathlib.Core.Bool.{false}
+use mathlib.Core.List.{List, []}
+use lib.ListN.{length, getD, take}
+use lib.Ieee.{nan}
+use Rattle.model.specs.declared.Counts.{Counts}
+use Rattle.model.specs.declared.Candidate.{Candidate}
+use Rattle.model.specs.Numbers.{f0}
+use Rattle.model.specs.Sheet.{Stop, Sheet, road-at}
+use Rattle.model.specs.View.{place-of}
+use Rattle.model.specs.Candidates.{find-candidates}
+use Rattle.candidates.specs.declared.find.Candidates.{Candidates}
+
+-- past the last point: a point without rows
+abbrev pub no-stop : Stop
+no-stop = record { point = record { dnp = f0; bearing = 0; frc = 0; fow = 0; limit = 255 }; rows = [] }
+
+abbrev pub stop-at : Sheet → ℕ → Stop
+stop-at t i = getD (t .stops) i no-stop
+
+unfoldable pub candidates-at : Sheet → ℕ → List Candidate
+candidates-at t i = find-candidates (t .settings) (place-of t (stop-at t i))
+
+-- a candidate on a road of the sheet t with the counts c
+pub record OnSheet (t : Sheet) (c : Counts) (x : Candidate) : Type 0 where
+  pub number : x .road .number < c .e
+  pub road : x .road ≡ road-at t (x .road .number)
+  pub source : x .road .source < c .n
+  pub target : x .road .target < c .n
+  pub frc : x .road .frc ≤ 7
+  pub fow : x .road .fow ≤ 7
+
+-- what stands in an array past its end
+abbrev pub no-candidate : Candidate
+no-candidate = record {
+  road = record { number = 0; id = 0; metres = nan; source = 0; target = 0; frc = 0; fow = 0; access = false };
+  distance = nan;
+  «bearing_diff» = nan;
+  «frc_diff» = 0;
+  «fow_score» = nan;
+  score = nan;
+  fraction = nan;
+}
+
+-- The first `count` items are the candidates of point i of t, at most as many as the settings allow, each on a road of the sheet.
+pub record Found (t : Sheet) (c : Counts) (i : ℕ) (r : Candidates) : Type 0 where
+  pub are : take (r .count) (r .items) ≡ candidates-at t i
+  pub counted : length (candidates-at t i) ≡ r .count
+  pub few : r .count ≤ 64
+  pub most : r .count ≤ t .settings .«max_candidates»
+  pub items : (k : ℕ) → k < r .count → OnSheet t c (getD (r .items) k no-candidate)

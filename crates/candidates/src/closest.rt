@@ -1,0 +1,71 @@
+// Whether every point has a candidate, and the nearest one of all is near enough.
+use crate::find;
+use crate::find::Candidates;
+use model::Counts;
+use sheet::points;
+ghost use mathlib.Core.Path.{_≡_};
+ghost use Prim.Native.Nat.{_≤_};
+ghost use lib.ListN.{take};
+ghost use Rattle.model.specs.Numbers.{infinity};
+ghost use Rattle.model.specs.Judge.{WellFormed};
+ghost use Rattle.model.specs.Sheet.{sheet-of};
+ghost use Rattle.model.specs.Candidates.{nearest};
+ghost use Rattle.candidates.specs.Points.{points-of};
+
+// The points are fine, or refusal 9 names this one.
+pub enum Points {
+    Fine,
+    NoCandidate(usize),
+}
+
+// Past every distance.
+fn infinity() -> f64
+    ensures { λ r. ⌜ r ≡ infinity ⌝ }
+{
+    f64::from_bits(0x7ff0_0000_0000_0000)
+}
+
+// The least distance of a point's candidates; infinity where there is none.
+pub fn nearest(x: Candidates) -> f64
+    requires { ⌜ x .count ≤ 64 ⌝ }
+    ensures { λ d. ⌜ d ≡ nearest (take (x .count) (x .items)) ⌝ }
+{
+    let count = x.count;
+    let mut least = infinity();
+    let mut k = 0;
+    while k < count {
+        let y = x.items[k];
+        if y.distance < least {
+            least = y.distance;
+        }
+        k += 1;
+    }
+    least
+}
+
+// The first point without a candidate; else the point whose nearest candidate is the nearest of all, the first if equal, where that one is too far.
+pub fn require_candidates(s: &[u8], c: Counts) -> Points
+    requires { ⌜ WellFormed (now s) c ⌝ }
+    ensures { λ r. ⌜ r ≡ points-of (sheet-of (now (s .entry)) c) ⌝ }
+{
+    let set = points::settings(s, c);
+    let mut least = infinity();
+    let mut at = 0;
+    let mut i = 0;
+    while i < c.p {
+        let x = find::find_candidates(s, c, set, i);
+        if x.count == 0 {
+            return Points::NoCandidate(i);
+        }
+        let d = nearest(x);
+        if d < least {
+            least = d;
+            at = i;
+        }
+        i += 1;
+    }
+    if c.p == 0 || least <= set.max_candidate_distance_m {
+        return Points::Fine;
+    }
+    Points::NoCandidate(at)
+}

@@ -1,0 +1,119 @@
+-- The areas with which a search begins: came_from filled with one mark, and the start's label and entry.
+use Prim.Native.Nat.{ℕ, zero, suc, _+_, _≤_, _<_}
+use mathlib.Core.Path.{_≡_, refl, ap, _∙_}
+use mathlib.Core.Logic.{inl, inr}
+use mathlib.Core.Option.{none, some}
+use mathlib.Core.List.{List, [], _∷_, _++_}
+use native.Mathlib.Numerals.{add-one}
+use native.Mathlib.Omega.{arith}
+use lib.ListN.{length, getD, set, take, drop, replicate, length-set, length-append, length-replicate, length-drop, getD-replicate, List·getD-append}
+use lib.Seq.{getD-set-same, getD-set-other, take-suc-set}
+use lib.Ieee.{Float}
+use Rattle.model.specs.declared.Road.{Road}
+use Rattle.model.specs.Numbers.{f0}
+use Rattle.model.specs.Lists.{tab}
+use Rattle.model.specs.Search.{Query, begun}
+use Rattle.bounds.proofs.Choices.{same-or-other}
+use Rattle.search.specs.Areas.{unreached, at-start, came-by, marked, label-of, labels-of, entries-of, columns, state-of, Sized, Mark, Proper}
+use Rattle.search.proofs.Tables.{table-alike}
+use Rattle.search.proofs.Labels.{marked-none, marked-some, labels-set}
+use Rattle.search.proofs.Entries.{entries-more}
+
+-- ---- a loop that fills the front of a list
+
+abbrev pub filled : {A : Type 0} → ℕ → A → List A → List A
+filled n x d = replicate n x ++ drop n d
+
+pub record Filling {A : Type 0} (x : A) (d s : List A) (i : ℕ) : Type 0 where
+  pub is : s ≡ filled i x d
+  pub size : length s ≡ length d
+
+fill-next : {A : Type 0} (n : ℕ) (x : A) (d : List A) → n < length d → set (filled n x d) n x ≡ filled (suc n) x d
+fill-next n x [] h = absurd (omega arith)
+fill-next zero x (y ∷ d) h = refl
+fill-next (suc n) x (y ∷ d) h = ap (λ t. x ∷ t) (fill-next n x d (omega arith))
+
+module _ {A : Type 0} (x : A) where
+  pub fill-start : (d : List A) → Filling x d d 0
+  fill-start d = record { is = refl; size = refl }
+
+  pub fill-step : {d s : List A} {i : ℕ} → Filling x d s i → i < length d → Filling x d (set s i x) (i + 1)
+  fill-step {d} {s} {i} f h = record { is = rw (add-one i, f .is) (fill-next i x d h); size = length-set s i x ∙ f .size }
+
+  pub length-filled : (n : ℕ) (d : List A) → n ≤ length d → length (filled n x d) ≡ length d
+  length-filled n d h = omega (arith, length-append (replicate n x) (drop n d), length-replicate n x, length-drop n d)
+
+  pub getD-filled : (n : ℕ) (d : List A) (k : ℕ) (e : A) → k < n → getD (filled n x d) k e ≡ x
+  getD-filled n d k e h = List·getD-append (replicate n x) (drop n d) e k (omega (arith, length-replicate n x)) ∙ getD-replicate n k x e h
+
+-- ---- the start's label and entry
+
+module _ (n start : ℕ) (real penalised : List Float) (came : List ℕ) (key cost : List Float) (node order : List ℕ) (ahead : Float) (inside : start < n) where
+  abbrev came₁ : List ℕ
+  came₁ = set (filled n unreached came) start at-start
+
+  module _ (roads : ℕ → Road) (q : Query) (nodes : q .nodes ≡ n) (far : q .ahead start ≡ ahead) (fits : Sized n 1 (columns real penalised came key cost node order 0 0)) where
+    none-reached : labels-of roads n real penalised (filled n unreached came) ≡ replicate n none
+    unfolding labels-of
+    none-reached = table-alike n (label-of roads real penalised (filled n unreached came)) none (λ k h. marked-none roads _ _ _ (getD-filled unreached n came k 0 h))
+
+    first-label : marked roads f0 f0 at-start ≡ some record { real = f0; penalised = f0; came-from = none }
+    unfolding came-by
+    first-label = marked-some roads f0 f0 at-start (λ e. omega arith)
+
+    begun-labels : labels-of roads n (set real start f0) (set penalised start f0) came₁ ≡ begun q start .labels
+    unfolding begun
+    begun-labels =
+        labels-set roads n real penalised (filled n unreached came) start f0 f0 at-start inside (fits .real) (fits .penalised) (omega (arith, length-filled unreached n came (fits .came), fits .came))
+        ∙ rw (none-reached, first-label, nodes)
+
+    begun-entries : entries-of (set key 0 ahead) (set cost 0 f0) (set node 0 start) 1 ≡ begun q start .made
+    unfolding begun entries-of tab
+    begun-entries = entries-more key cost node 0 ahead f0 start (fits .key) (fits .cost) (fits .node) ∙ rw far
+
+    begun-heap : take 1 (set order 0 0) ≡ begun q start .heap
+    unfolding begun
+    begun-heap = take-suc-set order 0 0 (fits .order)
+
+    pub begun-state : state-of roads n (columns (set real start f0) (set penalised start f0) came₁ (set key 0 ahead) (set cost 0 f0) (set node 0 start) (set order 0 0) 1 1) ≡ begun q start
+    begun-state = λ i. record { labels = begun-labels i; made = begun-entries i; heap = begun-heap i }
+
+  module _ (e slots : ℕ) (one : 0 < slots) (fits : Sized n slots (columns real penalised came key cost node order 0 0)) where
+    came-size : length came₁ ≡ length came
+    came-size = length-set (filled n unreached came) start at-start ∙ length-filled unreached n came (fits .came)
+
+    at-first : getD came₁ start 0 ≡ at-start
+    at-first = getD-set-same (filled n unreached came) start at-start 0 (omega (arith, length-filled unreached n came (fits .came), fits .came))
+
+    first-mark : (v : ℕ) → v < n → Mark e (getD came₁ v 0)
+    first-mark v h = elim (same-or-other v start) [
+      | inl p ↦ inr (inl (ap (λ (u : ℕ). getD came₁ u 0) p ∙ at-first))
+      | inr p ↦ inl (getD-set-other (filled n unreached came) start v at-start 0 p ∙ getD-filled unreached n came v 0 h)
+    ]
+
+    first-node : (k : ℕ) → k < 1 → getD (set node 0 start) k 0 ≡ start
+    first-node zero h = getD-set-same node 0 start 0 (omega (arith, fits .node))
+    first-node (suc k) h = absurd (omega arith)
+
+    first-number : (j : ℕ) → j < 1 → getD (set order 0 0) j 0 < 1
+    first-number zero h = omega (arith, getD-set-same order 0 0 0 (omega (arith, fits .order)))
+    first-number (suc j) h = absurd (omega arith)
+
+    pub begun-proper : Proper n e slots (columns (set real start f0) (set penalised start f0) came₁ (set key 0 ahead) (set cost 0 f0) (set node 0 start) (set order 0 0) 1 1)
+    begun-proper = record {
+      sized = record {
+        real = rw (length-set real start f0) (fits .real);
+        penalised = rw (length-set penalised start f0) (fits .penalised);
+        came = rw came-size (fits .came);
+        key = rw (length-set key 0 ahead) (fits .key);
+        cost = rw (length-set cost 0 f0) (fits .cost);
+        node = rw (length-set node 0 start) (fits .node);
+        order = rw (length-set order 0 0) (fits .order);
+      };
+      fewer = omega arith;
+      room = one;
+      numbers = first-number;
+      nodes = λ k h. rw (first-node k h) inside;
+      reached = λ k h. rw (first-node k h, at-first) (λ z. omega arith);
+      marks = first-mark;
+    }

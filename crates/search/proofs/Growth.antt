@@ -1,0 +1,170 @@
+-- A node gets a label and an entry: the areas stand for the definition's next state, and stay proper.
+use Prim.Native.Nat.{ℕ, _+_, _≤_, _<_}
+use mathlib.Core.Path.{_≡_, refl, sym, ap, _∙_}
+use mathlib.Core.Logic.{inl, inr, _≢_}
+use mathlib.Core.Option.{none, some}
+use mathlib.Core.List.{List, [], _∷_, _++_}
+use native.Mathlib.Omega.{arith}
+use lib.ListN.{length, getD, set, take, length-set}
+use lib.Seq.{getD-set-same, getD-set-other}
+use lib.Ieee.{Float}
+use borrow.Author.Tests.{ne-eqb}
+use Rattle.model.specs.declared.Road.{Road}
+use Rattle.model.specs.Numbers.{_⊕_}
+use Rattle.model.specs.Layout.{most-roads}
+use Rattle.model.specs.Heap.{push}
+use Rattle.model.specs.Search.{Query, Label, Entry, key-of, entered}
+use Rattle.bounds.proofs.Choices.{same-or-other}
+use Rattle.bounds.proofs.Turns.{entered-some, entered-none}
+use Rattle.heap.specs.Keys.{key-in, Below}
+use Rattle.search.specs.Areas.{at-start, came-by, marked, labels-of, entries-of, Columns, columns, state-of, Sized, SameSizes, Mark, Reached, Proper, Kept}
+use Rattle.search.proofs.Labels.{marked-some, labels-set}
+use Rattle.search.proofs.Entries.{entry-count, entries-more, heap-push, push-below}
+
+-- ---- from areas to areas
+
+pub sized-on : {n slots : ℕ} {a b : Columns} → Sized n slots a → SameSizes a b → Sized n slots b
+sized-on f g = record {
+  real = rw (g .real) (f .real);
+  penalised = rw (g .penalised) (f .penalised);
+  came = rw (g .came) (f .came);
+  key = rw (g .key) (f .key);
+  cost = rw (g .cost) (f .cost);
+  node = rw (g .node) (f .node);
+  order = rw (g .order) (f .order);
+}
+
+pub sizes-on : {a b d : Columns} → SameSizes a b → SameSizes b d → SameSizes a d
+sizes-on f g = record {
+  real = g .real ∙ f .real;
+  penalised = g .penalised ∙ f .penalised;
+  came = g .came ∙ f .came;
+  key = g .key ∙ f .key;
+  cost = g .cost ∙ f .cost;
+  node = g .node ∙ f .node;
+  order = g .order ∙ f .order;
+}
+
+pub kept-on : {n e slots : ℕ} {a b d : Columns} → Kept n e slots a b → Kept n e slots b d → Kept n e slots a d
+kept-on f g = record { proper = g .proper; sizes = sizes-on (f .sizes) (g .sizes); gone = omega (arith, f .gone, g .gone); reached = λ v h. g .reached v (f .reached v h) }
+
+pub kept-same : {n e slots : ℕ} {a : Columns} → Proper n e slots a → Kept n e slots a a
+kept-same ok = record { proper = ok; sizes = record { real = refl; penalised = refl; came = refl; key = refl; cost = refl; node = refl; order = refl }; gone = omega arith; reached = λ v h. h }
+
+-- the heap's order and length anew
+pub reordered : {n e slots : ℕ} {a : Columns} → Proper n e slots a → (order : List ℕ) (len : ℕ) → length order ≡ length (a .order) → len ≤ a .made → Below order len (a .made)
+    → Proper n e slots (columns (a .real) (a .penalised) (a .came) (a .key) (a .cost) (a .node) order len (a .made))
+reordered ok order len size fewer numbers = record {
+  sized = record { real = ok .sized .real; penalised = ok .sized .penalised; came = ok .sized .came; key = ok .sized .key; cost = ok .sized .cost; node = ok .sized .node; order = rw size (ok .sized .order) };
+  fewer = fewer;
+  room = ok .room;
+  numbers = numbers;
+  nodes = ok .nodes;
+  reached = ok .reached;
+  marks = ok .marks;
+}
+
+-- ---- one label and one entry more
+
+module _ (n e slots : ℕ) (few : e ≤ most-roads) (a : Columns) (ok : Proper n e slots a) where
+  pub grown-full : slots ≤ a .made → (roads : ℕ → Road) (q : Query) (v : ℕ) (l : Label) → none ≡ entered slots q (state-of roads n a) v l
+  grown-full h roads q v l = sym (entered-none slots q (state-of roads n a) v l (omega (arith, entry-count (a .key) (a .cost) (a .node) (a .made))))
+
+  -- node v, `far` from the goal, gets the costs x and y and the road k, and an entry
+  module _ (spare : a .made < slots) (v : ℕ) (inside : v < n) (k : ℕ) (road : k < e) (x y far : Float) (order : List ℕ) (size : length order ≡ length (a .order))
+      (pushed : take (a .len + 1) order ≡ push (key-in (set (a .key) (a .made) (y ⊕ far))) (take (a .len) (a .order)) (a .made)) where
+    abbrev key : Float
+    key = y ⊕ far
+
+    abbrev keys : List Float
+    keys = set (a .key) (a .made) key
+
+    abbrev costs : List Float
+    costs = set (a .cost) (a .made) y
+
+    abbrev nodes : List ℕ
+    nodes = set (a .node) (a .made) v
+
+    abbrev pub grown : Columns
+    grown = columns (set (a .real) v x) (set (a .penalised) v y) (set (a .came) v k) keys costs nodes order (a .len + 1) (a .made + 1)
+
+    wide : a .made + 1 ≤ length keys
+    wide = omega (arith, length-set (a .key) (a .made) key, ok .sized .key)
+
+    fits : a .len ≤ length (a .order)
+    fits = omega (arith, ok .sized .order, ok .fewer)
+
+    -- ---- the state
+
+    module _ (roads : ℕ → Road) (q : Query) (is : far ≡ q .ahead v) where
+      abbrev label : Label
+      label = record { real = x; penalised = y; came-from = some (roads k) }
+
+      label-is : marked roads x y k ≡ some label
+      unfolding came-by
+      label-is = marked-some roads x y k (λ z. omega arith) ∙ rw (ne-eqb k at-start (λ z. omega arith))
+
+      labels-are : labels-of roads n (set (a .real) v x) (set (a .penalised) v y) (set (a .came) v k) ≡ set (labels-of roads n (a .real) (a .penalised) (a .came)) v (some label)
+      labels-are = labels-set roads n (a .real) (a .penalised) (a .came) v x y k inside (ok .sized .real) (ok .sized .penalised) (ok .sized .came) ∙ rw label-is
+
+      entries-are : entries-of keys costs nodes (a .made + 1) ≡ entries-of (a .key) (a .cost) (a .node) (a .made) ++ record { key = y ⊕ q .ahead v; cost = y; node = v } ∷ []
+      entries-are = entries-more (a .key) (a .cost) (a .node) (a .made) key y v (omega (arith, ok .sized .key)) (omega (arith, ok .sized .cost)) (omega (arith, ok .sized .node)) ∙ rw is
+
+      heap-is : take (a .len + 1) order ≡ push (key-of (entries-of (a .key) (a .cost) (a .node) (a .made) ++ record { key = y ⊕ q .ahead v; cost = y; node = v } ∷ [])) (take (a .len) (a .order)) (length (entries-of (a .key) (a .cost) (a .node) (a .made)))
+      heap-is =
+          heap-push keys costs nodes (a .made + 1) (a .order) order (a .len) wide fits (a .made) refl (ok .numbers) pushed
+          ∙ ap (λ (es : List Entry). push (key-of es) (take (a .len) (a .order)) (a .made)) entries-are
+          ∙ ap (λ (m : ℕ). push (key-of (entries-of (a .key) (a .cost) (a .node) (a .made) ++ record { key = y ⊕ q .ahead v; cost = y; node = v } ∷ [])) (take (a .len) (a .order)) m) (sym (entry-count (a .key) (a .cost) (a .node) (a .made)))
+
+      pub grown-state : some (state-of roads n grown) ≡ entered slots q (state-of roads n a) v label
+      grown-state =
+          (λ i. some record { labels = labels-are i; made = entries-are i; heap = heap-is i })
+          ∙ sym (entered-some slots q (state-of roads n a) v label (omega (arith, entry-count (a .key) (a .cost) (a .node) (a .made))))
+
+    -- ---- the areas
+
+    mark-there : getD (set (a .came) v k) v 0 ≡ k
+    mark-there = getD-set-same (a .came) v k 0 (omega (arith, ok .sized .came))
+
+    mark-elsewhere : (u : ℕ) → u ≢ v → getD (set (a .came) v k) u 0 ≡ getD (a .came) u 0
+    mark-elsewhere u h = getD-set-other (a .came) v u k 0 h
+
+    still-reached : (u : ℕ) → Reached a u → Reached grown u
+    still-reached u h = elim (same-or-other u v) [ inl p ↦ λ z. omega (arith, ap (λ (w : ℕ). getD (set (a .came) v k) w 0) p, mark-there) | inr p ↦ λ z. h (sym (mark-elsewhere u p) ∙ z) ]
+
+    marks : (u : ℕ) → u < n → Mark e (getD (set (a .came) v k) u 0)
+    marks u h = elim (same-or-other u v) [ inl p ↦ rw (p, mark-there) (inr (inr road)) | inr p ↦ rw (mark-elsewhere u p) (ok .marks u h) ]
+
+    -- the new entry stands at v, and each other where it stood
+    at-node : (P : ℕ → Type 0) → P v → ((j : ℕ) → j < a .made → P (getD (a .node) j 0)) → (j : ℕ) → j < a .made + 1 → P (getD nodes j 0)
+    at-node P new old j h = elim (same-or-other j (a .made)) [
+      | inl p ↦ rw (p, getD-set-same (a .node) (a .made) v 0 (omega (arith, ok .sized .node))) new
+      | inr p ↦ rw (getD-set-other (a .node) (a .made) j v 0 p) (old j (omega arith))
+    ]
+
+    grown-sizes : SameSizes a grown
+    grown-sizes = record {
+      real = length-set (a .real) v x;
+      penalised = length-set (a .penalised) v y;
+      came = length-set (a .came) v k;
+      key = length-set (a .key) (a .made) key;
+      cost = length-set (a .cost) (a .made) y;
+      node = length-set (a .node) (a .made) v;
+      order = size;
+    }
+
+    pub grown-kept : Kept n e slots a grown
+    grown-kept = record {
+      proper = record {
+        sized = sized-on (ok .sized) grown-sizes;
+        fewer = omega (arith, ok .fewer);
+        room = omega arith;
+        numbers = push-below keys costs nodes (a .made + 1) (a .order) order (a .len) wide fits (a .made) refl (ok .numbers) pushed (omega (arith, ok .sized .order, ok .fewer));
+        nodes = at-node (λ u. u < n) inside (ok .nodes);
+        reached = at-node (Reached grown) (λ z. omega (arith, mark-there)) (λ j h. still-reached (getD (a .node) j 0) (ok .reached j h));
+        marks = marks;
+      };
+      sizes = grown-sizes;
+      gone = omega arith;
+      reached = still-reached;
+    }

@@ -1,0 +1,12 @@
+pub mod Tables
+pub mod Labels
+pub mod Entries
+pub mod Beginning
+pub mod Turned
+pub mod Walks
+pub mod Roads
+pub mod Growth
+pub mod Relaxing
+pub mod Visits
+pub mod Runs
+pub mod Whole

@@ -1,0 +1,142 @@
+-- What the lent areas stand for in the definition: the labels of all nodes, the entries made so far, and the heap. What stands behind them has no part.
+use Prim.Native.Nat.{ℕ, zero, suc, _+_, _-_, _≤_, _<_}
+use mathlib.Core.Path.{_≡_}
+use mathlib.Core.Logic.{_⊎_, _≢_}
+use mathlib.Core.Bool.{cond}
+use mathlib.Core.Option.{Option, none, some}
+use mathlib.Core.List.{List}
+use lib.Dec.{eqb}
+use lib.ListN.{length, getD, take}
+use lib.Ieee.{Float, nan}
+use Rattle.model.specs.declared.Counts.{Counts}
+use Rattle.model.specs.declared.Road.{Road}
+use Rattle.model.specs.Numbers.{f0}
+use Rattle.model.specs.Lists.{tab}
+use Rattle.model.specs.Sheet.{sheet-of, road-at}
+use Rattle.model.specs.Search.{Label, Entry, State}
+
+-- ---- labels
+
+-- marks in place of a road's number: the node is not reached; the node is the start
+abbrev pub unreached : ℕ
+unreached = 4294967295
+
+abbrev pub at-start : ℕ
+at-start = 4294967294
+
+unfoldable pub came-by : (ℕ → Road) → ℕ → Option Road
+came-by roads k = cond (eqb k at-start) none (some (roads k))
+
+-- the label that the costs x and y and the mark k of a node stand for
+unfoldable pub marked : (ℕ → Road) → Float → Float → ℕ → Option Label
+marked roads x y k = cond (eqb k unreached) none (some record { real = x; penalised = y; came-from = came-by roads k })
+
+abbrev pub label-of : (ℕ → Road) → List Float → List Float → List ℕ → ℕ → Option Label
+label-of roads real penalised came v = marked roads (getD real v nan) (getD penalised v nan) (getD came v 0)
+
+-- the labels of n nodes; `roads k` is road k
+unfoldable pub labels-of : (ℕ → Road) → ℕ → List Float → List Float → List ℕ → List (Option Label)
+labels-of roads n real penalised came = tab n 0 (label-of roads real penalised came)
+
+-- ---- entries
+
+abbrev pub entry-of : List Float → List Float → List ℕ → ℕ → Entry
+entry-of key cost node k = record { key = getD key k nan; cost = getD cost k nan; node = getD node k 0 }
+
+-- an entry of this cost at node u, whose roads are tried: its key no longer counts
+abbrev pub entry-from : ℕ → Float → Entry
+entry-from u cost = record { key = f0; cost = cost; node = u }
+
+unfoldable pub entries-of : List Float → List Float → List ℕ → ℕ → List Entry
+entries-of key cost node made = tab made 0 (entry-of key cost node)
+
+-- ---- the state
+
+-- Of each node the real and the penalised cost of its label and the road it came by; of each entry its key, cost and node; the heap's order, its length, and how many entries were made.
+pub record Columns : Type 0 where
+  pub real : List Float
+  pub penalised : List Float
+  pub came : List ℕ
+  pub key : List Float
+  pub cost : List Float
+  pub node : List ℕ
+  pub order : List ℕ
+  pub len : ℕ
+  pub made : ℕ
+
+abbrev pub columns : List Float → List Float → List ℕ → List Float → List Float → List ℕ → List ℕ → ℕ → ℕ → Columns
+columns real penalised came key cost node order len made = record { real = real; penalised = penalised; came = came; key = key; cost = cost; node = node; order = order; len = len; made = made }
+
+abbrev pub state-of : (ℕ → Road) → ℕ → Columns → State
+state-of roads n a = record {
+  labels = labels-of roads n (a .real) (a .penalised) (a .came);
+  made = entries-of (a .key) (a .cost) (a .node) (a .made);
+  heap = take (a .len) (a .order);
+}
+
+-- over the sheet that s holds
+abbrev pub labels-at : List ℕ → Counts → List Float → List Float → List ℕ → List (Option Label)
+labels-at s c real penalised came = labels-of (road-at (sheet-of s c)) (c .n) real penalised came
+
+abbrev pub state-at : List ℕ → Counts → Columns → State
+state-at s c a = state-of (road-at (sheet-of s c)) (c .n) a
+
+-- ---- what holds of the areas
+
+-- There is room for n nodes and for `slots` entries.
+pub record Sized (n slots : ℕ) (a : Columns) : Type 0 where
+  pub real : n ≤ length (a .real)
+  pub penalised : n ≤ length (a .penalised)
+  pub came : n ≤ length (a .came)
+  pub key : slots ≤ length (a .key)
+  pub cost : slots ≤ length (a .cost)
+  pub node : slots ≤ length (a .node)
+  pub order : slots ≤ length (a .order)
+
+-- a mark, or the number of one of e roads
+abbrev pub Mark : ℕ → ℕ → Type 0
+Mark e k = (k ≡ unreached) ⊎ (k ≡ at-start) ⊎ (k < e)
+
+abbrev pub Reached : Columns → ℕ → Type 0
+Reached a v = getD (a .came) v 0 ≢ unreached
+
+-- The areas of a search over n nodes and e roads. Entries are in the heap by their numbers, and each stands at a node that is reached.
+pub record Proper (n e slots : ℕ) (a : Columns) : Type 0 where
+  pub sized : Sized n slots a
+  pub fewer : a .len ≤ a .made
+  pub room : a .made ≤ slots
+  pub numbers : (j : ℕ) → j < a .len → getD (a .order) j 0 < a .made
+  pub nodes : (k : ℕ) → k < a .made → getD (a .node) k 0 < n
+  pub reached : (k : ℕ) → k < a .made → Reached a (getD (a .node) k 0)
+  pub marks : (v : ℕ) → v < n → Mark e (getD (a .came) v 0)
+
+-- No area changes its length.
+pub record SameSizes (a b : Columns) : Type 0 where
+  pub real : length (b .real) ≡ length (a .real)
+  pub penalised : length (b .penalised) ≡ length (a .penalised)
+  pub came : length (b .came) ≡ length (a .came)
+  pub key : length (b .key) ≡ length (a .key)
+  pub cost : length (b .cost) ≡ length (a .cost)
+  pub node : length (b .node) ≡ length (a .node)
+  pub order : length (b .order) ≡ length (a .order)
+
+-- From the areas a to the areas b: as many entries went into the heap as were made, and what was reached is reached.
+pub record Kept (n e slots : ℕ) (a b : Columns) : Type 0 where
+  pub proper : Proper n e slots b
+  pub sizes : SameSizes a b
+  pub gone : b .made + a .len ≡ b .len + a .made
+  pub reached : (v : ℕ) → Reached a v → Reached b v
+
+-- ---- the walk back
+
+-- from node v there are at most k roads back; what is no number of one of e roads is a mark
+abbrev pub Ends : (ℕ → Road) → ℕ → List ℕ → ℕ → ℕ → Type 0
+Ends roads e came zero v = e ≤ getD came v 0
+Ends roads e came (suc k) v = getD came v 0 < e → Ends roads e came k (roads (getD came v 0) .source)
+
+-- The goal is reached, and there are fewer roads back from it than nodes.
+pub record Back (n e : ℕ) (roads : ℕ → Road) (came : List ℕ) (goal : ℕ) : Type 0 where
+  pub size : n ≤ length came
+  pub marks : (v : ℕ) → v < n → Mark e (getD came v 0)
+  pub reached : getD came goal 0 ≢ unreached
+  pub ends : Ends roads e came (n - 1) goal

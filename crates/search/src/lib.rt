@@ -1,0 +1,135 @@
+// The bounded A* search over a well-formed sheet.
+mod begin;
+mod offers;
+mod query;
+mod relax;
+mod route;
+mod turns;
+
+use crate::turns::Turn;
+use model::Counts;
+use sheet::distances;
+ghost use mathlib.Core.Path.{_≡_};
+ghost use Prim.Native.Nat.{ℕ, _≤_, _<_};
+ghost use lib.ListN.{length};
+ghost use Rattle.model.specs.Judge.{WellFormed};
+ghost use Rattle.model.specs.Sheet.{sheet-of, road-at};
+ghost use Rattle.model.specs.Search.{search-within, bounded-astar};
+ghost use Rattle.bounds.specs.Amounts.{Amount};
+ghost use Rattle.search.specs.Ask.{asked, query-at};
+ghost use Rattle.search.specs.Areas.{columns, labels-at, Sized};
+ghost use Rattle.search.specs.Answers.{Stands, ended, answer};
+
+// What a search is asked: the way from `start` to `goal`, no path longer than `bound` metres, over roads within the raised class limit, with the penalties of slip and of access roads.
+pub struct Ask {
+    pub start: usize,
+    pub goal: usize,
+    pub bound: f64,
+    pub class: u8,
+    pub slip: f64,
+    pub access: f64,
+}
+
+// How a search ends: with the real cost and the number of roads, with no way, or with no slot left for an entry.
+pub enum Search {
+    Found(f64, usize),
+    Nothing,
+    Full,
+}
+
+// The end of a search, and how many heap entries it made.
+pub struct Searched {
+    pub search: Search,
+    pub entries: usize,
+}
+
+// The labels and entries of a whole search, from the start's on. The goal's row is found once.
+fn search_from_start(
+    s: &[u8],
+    c: Counts,
+    ask: Ask,
+    slots: usize,
+    real: &mut [f64],
+    penalised: &mut [f64],
+    came_from: &mut [usize],
+    key: &mut [f64],
+    cost: &mut [f64],
+    node: &mut [usize],
+    order: &mut [usize],
+) -> Turn
+    requires { ⌜ WellFormed (now s) c × (ask .start < c .n) × (0 < slots) × Sized (c .n) slots (columns (now real) (now penalised) (now «came_from») (now key) (now cost) (now node) (now order) 0 0) ⌝ }
+    ensures stands { λ t. ⌜ Stands (c .n) (c .e) slots (ask .goal) (t .progress) (columns (now (real .exit)) (now (penalised .exit)) (now («came_from» .exit)) (now (key .exit)) (now (cost .exit)) (now (node .exit)) (now (order .exit)) (t .len) (t .made)) ⌝ }
+    ensures found { λ t. ⌜ ((steps : ℕ) → ended steps (query-at (now (s .entry)) c ask) (t .progress) (labels-at (now (s .entry)) c (now (real .exit)) (now (penalised .exit)) (now («came_from» .exit)))
+        ≡ search-within steps slots slots (query-at (now (s .entry)) c ask) (ask .start)) ⌝ }
+{
+    let n = c.n;
+    let start = ask.start;
+    let row = distances::goal_row(s, c, ask.goal);
+    let far = query::ahead(s, c, ask, row, start);
+    begin::prepare(
+        real,
+        penalised,
+        came_from,
+        key,
+        cost,
+        node,
+        order,
+        n,
+        start,
+        far,
+    );
+    turns::run_search(
+        s,
+        c,
+        ask,
+        row,
+        slots,
+        real,
+        penalised,
+        came_from,
+        key,
+        cost,
+        node,
+        order,
+    )
+}
+
+// The bounded A* search from `ask.start` to `ask.goal`, with a heap of `slots` entries. The roads found stand in the front of `route`, in travel order.
+// The penalties are amounts, so that labels never fall along a way and the walk back needs no test for its end: those of the settings are (`slip-amount`, `access-amount`).
+pub fn bounded_astar(
+    s: &[u8],
+    c: Counts,
+    ask: Ask,
+    slots: usize,
+    real: &mut [f64],
+    penalised: &mut [f64],
+    came_from: &mut [usize],
+    route: &mut [usize],
+    key: &mut [f64],
+    cost: &mut [f64],
+    node: &mut [usize],
+    order: &mut [usize],
+) -> Searched
+    requires { ⌜ WellFormed (now s) c × (ask .start < c .n) × (ask .goal < c .n) × Amount (ask .slip) × Amount (ask .access) ⌝ }
+    requires { ⌜ (0 < slots) × (c .n ≤ length (now route)) × Sized (c .n) slots (columns (now real) (now penalised) (now «came_from») (now key) (now cost) (now node) (now order) 0 0) ⌝ }
+    ensures found { λ r. ⌜ answer (road-at (sheet-of (now (s .entry)) c)) (r .search) (now (route .exit)) ≡ bounded-astar slots (asked (sheet-of (now (s .entry)) c) ask) (ask .start) ⌝ }
+    ensures entries { λ r. ⌜ r .entries ≤ slots ⌝ }
+{
+    let t = search_from_start(
+        s,
+        c,
+        ask,
+        slots,
+        real,
+        penalised,
+        came_from,
+        key,
+        cost,
+        node,
+        order,
+    );
+    let progress = t.progress;
+    let entries = t.made;
+    let search = route::trace_route(s, c, ask, progress, real, came_from, route);
+    Searched { search, entries }
+}

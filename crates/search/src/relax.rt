@@ -1,0 +1,188 @@
+// One road, and all roads that leave a node.
+use crate::Ask;
+use crate::offers::Offer;
+use crate::offers::offer_of;
+use crate::query;
+use model::Counts;
+use model::Road;
+use road_network::road_class;
+use sheet::distances::GoalRow;
+use sheet::roads;
+ghost use mathlib.Core.Path.{_≡_};
+ghost use mathlib.Core.Logic.{_≢_};
+ghost use mathlib.Core.Option.{some};
+ghost use Prim.Native.Nat.{_<_};
+ghost use lib.ListN.{getD};
+ghost use Rattle.model.specs.Sheet.{sheet-of, road-at};
+ghost use Rattle.model.specs.Search.{entered, relax, relax-all};
+ghost use Rattle.search.specs.Ask.{query-at, Ready};
+ghost use Rattle.search.specs.Areas.{unreached, entry-from, columns, state-at, Proper};
+ghost use Rattle.search.specs.Answers.{outcome, After};
+
+// The heap's length and the number of entries made after a step, or no slot left.
+pub enum Relaxed {
+    Done(usize, usize),
+    Full,
+}
+
+// The target of r gets the label of costs a and b, and an entry, if a slot is left; slots are not reused.
+fn enter(
+    s: &[u8],
+    c: Counts,
+    ask: Ask,
+    row: GoalRow,
+    slots: usize,
+    real: &mut [f64],
+    penalised: &mut [f64],
+    came_from: &mut [usize],
+    key: &mut [f64],
+    cost: &mut [f64],
+    node: &mut [usize],
+    order: &mut [usize],
+    len: usize,
+    made: usize,
+    r: Road,
+    a: f64,
+    b: f64,
+) -> Relaxed
+    requires { ⌜ Ready (now s) c ask row × Proper (c .n) (c .e) slots (columns (now real) (now penalised) (now «came_from») (now key) (now cost) (now node) (now order) len made) × (r .target < c .n) × (r .number < c .e) ⌝ }
+    ensures kept { λ o. ⌜ After (c .n) (c .e) slots (columns (now (real .entry)) (now (penalised .entry)) (now («came_from» .entry)) (now (key .entry)) (now (cost .entry)) (now (node .entry)) (now (order .entry)) len made)
+        o (columns (now (real .exit)) (now (penalised .exit)) (now («came_from» .exit)) (now (key .exit)) (now (cost .exit)) (now (node .exit)) (now (order .exit))) ⌝ }
+    ensures state { λ o. ⌜ outcome o (λ l m. state-at (now (s .entry)) c (columns (now (real .exit)) (now (penalised .exit)) (now («came_from» .exit)) (now (key .exit)) (now (cost .exit)) (now (node .exit)) (now (order .exit)) l m))
+        ≡ entered slots (query-at (now (s .entry)) c ask) (state-at (now (s .entry)) c (columns (now (real .entry)) (now (penalised .entry)) (now («came_from» .entry)) (now (key .entry)) (now (cost .entry)) (now (node .entry)) (now (order .entry)) len made))
+        (r .target) record { real = a; penalised = b; came-from = some (road-at (sheet-of (now (s .entry)) c) (r .number)) } ⌝ }
+{
+    if slots <= made {
+        return Relaxed::Full;
+    }
+    let v = r.target;
+    real[v] = a;
+    penalised[v] = b;
+    came_from[v] = r.number;
+    key[made] = b + query::ahead(s, c, ask, row, v);
+    cost[made] = b;
+    node[made] = v;
+    heap::push(order, key, len, made);
+    let longer = len + 1;
+    let more = made + 1;
+    Relaxed::Done(longer, more)
+}
+
+// One road r out of node u, which was taken out of the heap at the penalised cost g.
+fn relax(
+    s: &[u8],
+    c: Counts,
+    ask: Ask,
+    row: GoalRow,
+    slots: usize,
+    real: &mut [f64],
+    penalised: &mut [f64],
+    came_from: &mut [usize],
+    key: &mut [f64],
+    cost: &mut [f64],
+    node: &mut [usize],
+    order: &mut [usize],
+    len: usize,
+    made: usize,
+    u: usize,
+    g: f64,
+    r: Road,
+) -> Relaxed
+    requires { ⌜ Ready (now s) c ask row × Proper (c .n) (c .e) slots (columns (now real) (now penalised) (now «came_from») (now key) (now cost) (now node) (now order) len made) ⌝ }
+    requires { ⌜ (u < c .n) × (getD (now «came_from») u 0 ≢ unreached) × (r .target < c .n) × (r .number < c .e) × (road-at (sheet-of (now s) c) (r .number) ≡ r) ⌝ }
+    ensures kept { λ o. ⌜ After (c .n) (c .e) slots (columns (now (real .entry)) (now (penalised .entry)) (now («came_from» .entry)) (now (key .entry)) (now (cost .entry)) (now (node .entry)) (now (order .entry)) len made)
+        o (columns (now (real .exit)) (now (penalised .exit)) (now («came_from» .exit)) (now (key .exit)) (now (cost .exit)) (now (node .exit)) (now (order .exit))) ⌝ }
+    ensures state { λ o. ⌜ outcome o (λ l m. state-at (now (s .entry)) c (columns (now (real .exit)) (now (penalised .exit)) (now («came_from» .exit)) (now (key .exit)) (now (cost .exit)) (now (node .exit)) (now (order .exit)) l m))
+        ≡ relax slots (query-at (now (s .entry)) c ask) (entry-from u g) (state-at (now (s .entry)) c (columns (now (real .entry)) (now (penalised .entry)) (now («came_from» .entry)) (now (key .entry)) (now (cost .entry)) (now (node .entry)) (now (order .entry)) len made)) r ⌝ }
+{
+    let v = r.target;
+    let extra = query::penalty(ask, r);
+    let o = offer_of(ask.bound, real[u], g, r, extra, penalised[v], came_from[v]);
+    match o {
+        Offer::Keep => Relaxed::Done(len, made),
+        Offer::Better(a, b) => enter(
+            s,
+            c,
+            ask,
+            row,
+            slots,
+            real,
+            penalised,
+            came_from,
+            key,
+            cost,
+            node,
+            order,
+            len,
+            made,
+            r,
+            a,
+            b,
+        ),
+    }
+}
+
+// All roads that the leg may use out of node u, which was taken out of the heap at the penalised cost g, in list order.
+pub fn relax_all(
+    s: &[u8],
+    c: Counts,
+    ask: Ask,
+    row: GoalRow,
+    slots: usize,
+    real: &mut [f64],
+    penalised: &mut [f64],
+    came_from: &mut [usize],
+    key: &mut [f64],
+    cost: &mut [f64],
+    node: &mut [usize],
+    order: &mut [usize],
+    first_len: usize,
+    first_made: usize,
+    u: usize,
+    g: f64,
+) -> Relaxed
+    requires { ⌜ Ready (now s) c ask row × Proper (c .n) (c .e) slots (columns (now real) (now penalised) (now «came_from») (now key) (now cost) (now node) (now order) «first_len» «first_made») ⌝ }
+    requires { ⌜ (u < c .n) × (getD (now «came_from») u 0 ≢ unreached) ⌝ }
+    ensures kept { λ o. ⌜ After (c .n) (c .e) slots (columns (now (real .entry)) (now (penalised .entry)) (now («came_from» .entry)) (now (key .entry)) (now (cost .entry)) (now (node .entry)) (now (order .entry)) «first_len» «first_made»)
+        o (columns (now (real .exit)) (now (penalised .exit)) (now («came_from» .exit)) (now (key .exit)) (now (cost .exit)) (now (node .exit)) (now (order .exit))) ⌝ }
+    ensures state { λ o. ⌜ outcome o (λ l m. state-at (now (s .entry)) c (columns (now (real .exit)) (now (penalised .exit)) (now («came_from» .exit)) (now (key .exit)) (now (cost .exit)) (now (node .exit)) (now (order .exit)) l m))
+        ≡ relax-all slots (query-at (now (s .entry)) c ask) (entry-from u g) (query-at (now (s .entry)) c ask .leaving u)
+        (state-at (now (s .entry)) c (columns (now (real .entry)) (now (penalised .entry)) (now («came_from» .entry)) (now (key .entry)) (now (cost .entry)) (now (node .entry)) (now (order .entry)) «first_len» «first_made»)) ⌝ }
+{
+    let mut len = first_len;
+    let mut made = first_made;
+    let mut i = roads::start(s, c, u);
+    let end = roads::start(s, c, u + 1);
+    while i < end {
+        let k = roads::entry(s, c, i);
+        let r = roads::road(s, c, k);
+        i += 1;
+        if road_class::allows(ask.class, r) {
+            let x = relax(
+                s,
+                c,
+                ask,
+                row,
+                slots,
+                real,
+                penalised,
+                came_from,
+                key,
+                cost,
+                node,
+                order,
+                len,
+                made,
+                u,
+                g,
+                r,
+            );
+            let Relaxed::Done(l, m) = x else {
+                return Relaxed::Full;
+            };
+            len = l;
+            made = m;
+        }
+    }
+    Relaxed::Done(len, made)
+}
