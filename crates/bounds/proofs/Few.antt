@@ -42,7 +42,7 @@ outs-note v inward (x ∷ xs) = go (eqb (x .node) v) inward (outs-note v inward 
 module _ (n : ℕ) where
   -- ---- a self-loop makes the node its own neighbour for good
 
-  abbrev Own : List Neighbour → Type 0
+  abbrev pub Own : List Neighbour → Type 0
   Own xs = (x : Neighbour) × In x xs × (x .node ≡ n)
 
   note-own : (v : ℕ) (inward : Bool) (xs : List Neighbour) → Own xs → Own (note v inward xs)
@@ -57,7 +57,7 @@ module _ (n : ℕ) where
       go true ih = elim (List·Memᴰ·cases-cons (o .1)) [ inl e ↦ (grown inward x, here, sym (ap (λ (y : Neighbour). y .node) e) ∙ o .2) | inr m ↦ later (o .0, m, o .2) ]
       go false ih = elim (List·Memᴰ·cases-cons (o .1)) [ inl e ↦ (x, here, sym (ap (λ (y : Neighbour). y .node) e) ∙ o .2) | inr m ↦ later (ih (o .0, m, o .2)) ]
 
-  note-self : (v : ℕ) (inward : Bool) (xs : List Neighbour) → v ≡ n → Own (note v inward xs)
+  pub note-self : (v : ℕ) (inward : Bool) (xs : List Neighbour) → v ≡ n → Own (note v inward xs)
   unfolding note grown
   note-self v inward [] e = (grown inward (record { node = v; ins = 0; outs = 0 }), here, e)
   note-self v inward (x ∷ xs) e = go (eqb (x .node) v) refl (note-self v inward xs e)
@@ -137,11 +137,11 @@ module _ (t : Sheet) (n : ℕ) where
   -- ---- a node without a choice
 
   -- two neighbours and none of them a choice
-  record Through : Type 0 where
-    two : length (around t n) ≡ 2
-    plain : T (not (any (is-choice n) (around t n)))
+  pub record Through : Type 0 where
+    pub two : length (around t n) ≡ 2
+    pub plain : T (not (any (is-choice n) (around t n)))
 
-  through : is-valid-node t n ≡ false → Through
+  pub through : is-valid-node t n ≡ false → Through
   unfolding is-valid-node passes-through
   through h =
       let xs = around t n in

@@ -3,3 +3,8 @@ pub mod Pairs
 pub mod Classes
 pub mod Forms
 pub mod Signs
+pub mod DrawingProof
+pub mod Runs
+pub mod Settling
+pub mod Kept
+pub mod Ways
