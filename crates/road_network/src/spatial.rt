@@ -4,7 +4,7 @@ ghost use Rattle.model.specs.Numbers.{fabs};
 ghost use Rattle.model.specs.Candidates.{bearing-difference, fraction};
 
 // f64::abs. -0 gives 0 and a NaN itself.
-fn abs(x: f64) -> f64
+pub fn abs(x: f64) -> f64
     ensures { λ r. ⌜ r ≡ fabs x ⌝ }
 {
     if x < 0.0 {

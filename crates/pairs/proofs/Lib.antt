@@ -1,0 +1,5 @@
+pub mod PairLaws
+pub mod Moving
+pub mod Places
+pub mod Numbers
+pub mod Sums

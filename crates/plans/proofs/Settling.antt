@@ -1,0 +1,86 @@
+-- What `settle` promises, case by case.
+use mathlib.Core.Path.{_≡_, ap, _∙_}
+use mathlib.Core.Bool.{Bool, true, false, cond}
+use mathlib.Core.List.{List, map}
+use Prim.Native.Nat.{ℕ, _≤_}
+use native.Mathlib.Omega.{arith}
+use lib.ListN.{length, take, drop}
+use lib.Seq.{take-at, length-take-le}
+use lib.Ieee.{Float}
+use Rattle.model.specs.declared.Road.{Road}
+use Rattle.model.specs.declared.Limits.{Limits}
+use Rattle.model.specs.Legs.{Pair, over, improve, reached, settled, goes-on}
+use Rattle.rules.specs.declared.Best.{Best}
+use Rattle.rules.specs.Code.{best-of}
+use Rattle.plans.specs.declared.Plan.{Plan}
+use Rattle.plans.specs.declared.Plan.the-variants as P
+use Rattle.plans.specs.declared.Middle.{Middle}
+use Rattle.plans.specs.declared.Middle.the-variants as M
+use Rattle.plans.specs.declared.Phase.the-variants as H
+use Rattle.plans.specs.declared.State.{State}
+use Rattle.plans.specs.Turns.{asked-of, found-of, count-of, turn-of, renewed, Comes}
+
+-- the roads that are taken stand in front
+pub taken-front : (n : ℕ) (new old : List ℕ) → n ≤ length new → take n (renewed n new old) ≡ take n new
+taken-front n new old h = take-at (take n new) (drop n old) n (length-take-le n new h)
+
+-- the better of the best so far and a route over n roads, by the test of their scores
+abbrev pub Better : Best → Best → ℕ → State → Type 0
+Better best next n r = Comes r n (λ roads old new. goes-on (improve (best-of roads best old) (best-of roads next (renewed n new old))))
+
+module _ (best next : Best) (n : ℕ) (t : Bool)
+    (e : (roads : ℕ → Road) (old new : List ℕ) → cond t (best-of roads next new) (best-of roads best old) ≡ improve (best-of roads best old) (best-of roads next new)) where
+  pub next-taken : t ≡ true → Better best next n (record { phase = H.On; best = next; taken = n })
+  unfolding turn-of
+  next-taken w = record { few = omega arith; means = λ roads old new h. ap goes-on (rw w at (e roads old (renewed n new old))) }
+
+  pub best-kept : t ≡ false → Better best next n (record { phase = H.On; best = best; taken = 0 })
+  unfolding turn-of
+  best-kept w = record { few = omega arith; means = λ roads old new h. ap goes-on (rw w at (e roads old (renewed n new old))) }
+
+-- by what lies between the roads
+module _ (b : Limits) (q : Pair) (best : Best) (m : Middle) where
+  abbrev pub Reached : State → Type 0
+  Reached r = Comes r (count-of m) (λ roads old new. reached b q (best-of roads best old) (found-of roads m new))
+
+  pub by-none : m ≡ M.Nothing → Reached (record { phase = H.On; best = best; taken = 0 })
+  unfolding turn-of found-of reached
+  by-none f = record { few = omega arith; means = λ roads old new h. rw f }
+
+  pub by-full : m ≡ M.Full → Reached (record { phase = H.Full; best = best; taken = 0 })
+  unfolding turn-of found-of reached
+  by-full f = record { few = omega arith; means = λ roads old new h. rw f }
+
+  pub by-found : (cost : Float) (n : ℕ) → m ≡ M.Found cost n
+      → (next : Best) → ((roads : ℕ → Road) (area : List ℕ) → best-of roads next area ≡ over b q cost (map roads (take n area)))
+      → (r : State) → Better best next n r → Reached r
+  unfolding found-of reached count-of
+  by-found cost n f next w r g = record {
+    few = rw f (g .few);
+    means = λ roads old new h.
+        let fit : n ≤ length new = rw f at h in
+        g .means roads old new fit
+        ∙ ap (λ s. goes-on (improve (best-of roads best old) s)) (w roads (renewed n new old) ∙ ap (λ (l : List ℕ). over b q cost (map roads l)) (taken-front n new old fit))
+        ∙ rw f;
+  }
+
+  -- by the plan
+  module _ (p : Plan) where
+    abbrev pub Settled : State → Type 0
+    Settled r = Comes r (count-of m) (λ roads old new. settled b q (best-of roads best old) (asked-of roads old p) (found-of roads m new))
+
+    pub by-enough : p ≡ P.Enough → Settled (record { phase = H.Ended; best = best; taken = 0 })
+    unfolding settled asked-of turn-of
+    by-enough e = record { few = omega arith; means = λ roads old new h. rw e }
+
+    pub by-nothing : p ≡ P.Nothing → Settled (record { phase = H.On; best = best; taken = 0 })
+    unfolding settled asked-of turn-of
+    by-nothing e = record { few = omega arith; means = λ roads old new h. rw e }
+
+    pub by-alone : (way : Best) → p ≡ P.Alone way → (r : State) → Better best way 0 r → Settled r
+    unfolding settled asked-of
+    by-alone way e r g = record { few = (let t = g .few in omega arith); means = λ roads old new h. g .means roads old new (omega arith) ∙ rw e }
+
+    pub by-across : (bound : Float) → p ≡ P.Across bound → (r : State) → Reached r → Settled r
+    unfolding settled asked-of
+    by-across bound e r g = record { few = g .few; means = λ roads old new h. g .means roads old new h ∙ rw e }

@@ -1,0 +1,56 @@
+-- What the code's plans, answers and states stand for. The roads of a search stand in a lent area, by their numbers.
+use Prim.Native.Nat.{ℕ, _≤_}
+use mathlib.Core.Path.{_≡_}
+use mathlib.Core.Option.{Option}
+use mathlib.Core.List.{List, _++_, map}
+use lib.ListN.{length, take, drop}
+use lib.Ieee.{Float}
+use Rattle.model.specs.declared.Road.{Road}
+use Rattle.model.specs.Search.{Found, found, none-found, full}
+use Rattle.model.specs.Legs.{Scored, Asked, enough, nothing, alone, across, Turn, ends, goes-on, sought, heap-full}
+use Rattle.rules.specs.Code.{best-of}
+use Rattle.plans.specs.declared.Plan.{Plan}
+use Rattle.plans.specs.declared.Plan.the-variants as P
+use Rattle.plans.specs.declared.Ask.{Ask}
+use Rattle.plans.specs.declared.Ask.the-variants as A
+use Rattle.plans.specs.declared.Middle.{Middle}
+use Rattle.plans.specs.declared.Middle.the-variants as M
+use Rattle.plans.specs.declared.Phase.{Phase}
+use Rattle.plans.specs.declared.Phase.the-variants as H
+use Rattle.plans.specs.declared.State.{State}
+
+unfoldable pub asked-of : (ℕ → Road) → List ℕ → Plan → Asked
+asked-of roads area P.Enough = enough
+asked-of roads area P.Nothing = nothing
+asked-of roads area (P.Alone b) = alone (best-of roads b area)
+asked-of roads area (P.Across bound) = across bound
+
+-- what a search within a bound finds, where one is asked for
+unfoldable pub by-ask : (Float → Found) → Ask → Found
+by-ask seek A.No = none-found
+by-ask seek (A.Within bound) = seek bound
+
+unfoldable pub found-of : (ℕ → Road) → Middle → List ℕ → Found
+found-of roads (M.Found cost n) area = found cost (map roads (take n area))
+found-of roads M.Nothing area = none-found
+found-of roads M.Full area = full
+
+-- how many roads lie between
+unfoldable pub count-of : Middle → ℕ
+count-of (M.Found cost n) = n
+count-of M.Nothing = 0
+count-of M.Full = 0
+
+unfoldable pub turn-of : Phase → Option Scored → Turn
+turn-of H.On b = goes-on b
+turn-of H.Ended b = ends (sought b)
+turn-of H.Full b = ends heap-full
+
+-- the first n entries of the search's area before the rest of the old one
+abbrev pub renewed : ℕ → List ℕ → List ℕ → List ℕ
+renewed n new old = take n new ++ drop n old
+
+-- r comes to the turn w: with the roads that it takes from the search's area `new`, where n were found, to the old area of the best so far.
+pub record Comes (r : State) (n : ℕ) (w : (ℕ → Road) → List ℕ → List ℕ → Turn) : Type 0 where
+  pub few : r .taken ≤ n
+  pub means : (roads : ℕ → Road) (old new : List ℕ) → n ≤ length new → turn-of (r .phase) (best-of roads (r .best) (renewed (r .taken) new old)) ≡ w roads old new

@@ -1,0 +1,39 @@
+// One pair of candidates of a leg: what it asks for, and what comes of it.
+pub mod turns;
+
+use rules::Best;
+
+// What a pair asks for: an end of the pairs, nothing, its route on one road, or a search within these metres.
+pub enum Plan {
+    Enough,
+    Nothing,
+    Alone(Best),
+    Across(f64),
+}
+
+// Whether a search is asked for, and within how many metres.
+pub enum Ask {
+    No,
+    Within(f64),
+}
+
+// What lies between the two roads: the cost of a way and how many roads of the search's area it has, no way, or a full heap.
+pub enum Middle {
+    Found(f64, usize),
+    Nothing,
+    Full,
+}
+
+// Whether the pairs go on, have ended, or ended with a full heap.
+pub enum Phase {
+    On,
+    Ended,
+    Full,
+}
+
+// After a pair: how it goes on, the best so far, and how many roads of the search's area are its middle now.
+pub struct State {
+    pub phase: Phase,
+    pub best: Best,
+    pub taken: usize,
+}

@@ -1,0 +1,164 @@
+// The turn of one pair, but for its search: all by value.
+ghost use mathlib.Core.Path.{_≡_};
+ghost use mathlib.Core.Bool.{cond};
+ghost use mathlib.Core.List.{List, map};
+ghost use Prim.Native.Nat.{ℕ};
+ghost use lib.ListN.{take};
+ghost use Rattle.model.specs.declared.Road.{Road};
+ghost use Rattle.model.specs.Numbers.{f0};
+ghost use Rattle.model.specs.Legs.{Pair, Seek, pair, best-score, asked, over, improve, middle-of, goes-on, reached, settled};
+ghost use Rattle.rules.specs.Code.{best-of};
+ghost use Rattle.plans.specs.Turns.{asked-of, by-ask, found-of, count-of, renewed, Comes};
+use crate::Ask;
+use crate::Middle;
+use crate::Phase;
+use crate::Plan;
+use crate::State;
+use model::Candidate;
+use model::Limits;
+use road_network::road_class;
+use rules::Best;
+use rules::Part;
+use rules::Route;
+use rules::lengths;
+use rules::routes;
+
+// What a pair asks for, with the best so far.
+pub fn plan(b: Limits, best: Best, start: Candidate, end: Candidate) -> Plan
+    ensures { λ r. ⌜ ((roads : ℕ → Road) (old area : List ℕ) → asked-of roads area r ≡ asked b (best-score (best-of roads best old)) (pair start end)) ⌝ }
+{
+    if routes::best_score(best) <= start.score + end.score {
+        return Plan::Enough;
+    }
+    if !road_class::allows(b.class, start.road) {
+        return Plan::Nothing;
+    }
+    if !road_class::allows(b.class, end.road) {
+        return Plan::Nothing;
+    }
+    if start.road.number == end.road.number {
+        let way = routes::on_one_road(b, start, end);
+        return Plan::Alone(way);
+    }
+    let bound = lengths::middle_max(b, start, end);
+    if bound <= 0.0 {
+        return Plan::Nothing;
+    }
+    Plan::Across(bound)
+}
+
+// The search that a plan asks for.
+pub fn ask(p: Plan) -> Ask
+    ensures { λ r. ⌜ ((roads : ℕ → Road) (area : List ℕ) (seek : Seek) (q : Pair) → by-ask (seek (q .start .road .target) (q .end .road .source)) r ≡ middle-of seek q (asked-of roads area p)) ⌝ }
+{
+    match p {
+        Plan::Enough => Ask::No,
+        Plan::Nothing => Ask::No,
+        Plan::Alone(_) => Ask::No,
+        Plan::Across(bound) => Ask::Within(bound),
+    }
+}
+
+// An offset counts only at a road that stays.
+fn if_kept(kept: bool, offset: f64) -> f64
+    ensures { λ r. ⌜ r ≡ cond kept offset f0 ⌝ }
+{
+    if kept { offset } else { 0.0 }
+}
+
+// The route over a way of n roads with this cost, if its length fits.
+fn route_over(b: Limits, start: Candidate, end: Candidate, cost: f64, n: usize) -> Best
+    ensures { λ r. ⌜ ((roads : ℕ → Road) (area : List ℕ) → best-of roads r area ≡ over b (pair start end) cost (map roads (take n area))) ⌝ }
+{
+    let first = start.road;
+    let last = end.road;
+    let start_part = lengths::end_offset(start);
+    let end_part = lengths::start_offset(end);
+    let total = lengths::length_over(start, end, cost);
+    let found = lengths::fits_over(b, total);
+    let score = lengths::score_of(b, start, end, total);
+    let first_stays = lengths::stays(start_part, total);
+    let last_stays = lengths::stays(end_part, total);
+    let start_offset = if_kept(first_stays, lengths::start_offset(start));
+    let end_offset = if_kept(last_stays, lengths::end_offset(end));
+    Best {
+        found,
+        score,
+        route: Route {
+            total,
+            start_offset,
+            end_offset,
+            head: Part {
+                kept: first_stays,
+                road: first,
+                metres: start_part,
+            },
+            count: n,
+            tail: Part {
+                kept: last_stays,
+                road: last,
+                metres: end_part,
+            },
+        },
+    }
+}
+
+// The better of the best so far and a route over n roads of the search's area.
+fn take_better(best: Best, next: Best, n: usize) -> State
+    ensures { λ r. ⌜ Comes r n (λ roads old new. goes-on (improve (best-of roads best old) (best-of roads next (renewed n new old)))) ⌝ }
+{
+    if routes::improves(best, next) {
+        return State {
+            phase: Phase::On,
+            best: next,
+            taken: n,
+        };
+    }
+    State {
+        phase: Phase::On,
+        best,
+        taken: 0,
+    }
+}
+
+// What a search leaves of the best so far, by what it found between the two roads.
+fn reach(b: Limits, start: Candidate, end: Candidate, best: Best, m: Middle) -> State
+    ensures { λ r. ⌜ Comes r (count-of m) (λ roads old new. reached b (pair start end) (best-of roads best old) (found-of roads m new)) ⌝ }
+{
+    match m {
+        Middle::Found(cost, n) => {
+            let next = route_over(b, start, end, cost, n);
+            take_better(best, next, n)
+        }
+        Middle::Nothing => State {
+            phase: Phase::On,
+            best,
+            taken: 0,
+        },
+        Middle::Full => State {
+            phase: Phase::Full,
+            best,
+            taken: 0,
+        },
+    }
+}
+
+// What a pair leaves of the best so far, by its plan and by what lies between its roads.
+pub fn settle(b: Limits, start: Candidate, end: Candidate, best: Best, p: Plan, m: Middle) -> State
+    ensures { λ r. ⌜ Comes r (count-of m) (λ roads old new. settled b (pair start end) (best-of roads best old) (asked-of roads old p) (found-of roads m new)) ⌝ }
+{
+    match p {
+        Plan::Enough => State {
+            phase: Phase::Ended,
+            best,
+            taken: 0,
+        },
+        Plan::Nothing => State {
+            phase: Phase::On,
+            best,
+            taken: 0,
+        },
+        Plan::Alone(way) => take_better(best, way, 0),
+        Plan::Across(_) => reach(b, start, end, best, m),
+    }
+}

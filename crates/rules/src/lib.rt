@@ -1,0 +1,32 @@
+// The rules of one leg by value: what it accepts, the lengths and scores of its routes, and the best route on one road.
+use model::Road;
+
+pub mod floats;
+pub mod lengths;
+pub mod limits;
+pub mod routes;
+pub mod same_edge;
+
+// A terminal road of a route, if it is kept, with the metres that are covered of it.
+pub struct Part {
+    pub kept: bool,
+    pub road: Road,
+    pub metres: f64,
+}
+
+// A route: its length and offsets, the first road, how many roads of a lent area follow, and the last road.
+pub struct Route {
+    pub total: f64,
+    pub start_offset: f64,
+    pub end_offset: f64,
+    pub head: Part,
+    pub count: usize,
+    pub tail: Part,
+}
+
+// The best route so far, if there is one, with its score.
+pub struct Best {
+    pub found: bool,
+    pub score: f64,
+    pub route: Route,
+}
