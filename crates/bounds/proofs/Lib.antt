@@ -2,6 +2,7 @@ pub mod Rank
 pub mod AmountLaws
 pub mod FormedProof
 pub mod Choices
+pub mod Shifted
 pub mod Counting
 pub mod HeapLaws
 pub mod Turns

@@ -4,7 +4,6 @@ pub mod Ranked
 pub mod Degrees
 pub mod Weighed
 pub mod SheetFacts
-pub mod Shifted
 pub mod Gathered
 pub mod Turns
 pub mod Rules

@@ -20,7 +20,7 @@ use Rattle.candidates.specs.declared.find.Candidates.{Candidates}
 use Rattle.candidates.specs.Found.{no-candidate, Found}
 use Rattle.candidates.proofs.Sorted.{Ordered, insert-at}
 use Rattle.candidates.proofs.Ranked.{Scored, better-orders}
-use Rattle.candidates.proofs.Shifted.{Moved, put-in}
+use Rattle.bounds.proofs.Shifted.{Moved, put-in}
 use Rattle.candidates.proofs.Gathered.{sorted, row-candidate, row-facts, sorted-facts, cut-is}
 
 module _ (s : List ℕ) (c : Counts) (i : ℕ) (h : i < c .p) (ok : WellFormed s c) where

@@ -1,5 +1,4 @@
 pub mod PairLaws
-pub mod Moving
 pub mod Places
 pub mod Numbers
 pub mod Sums

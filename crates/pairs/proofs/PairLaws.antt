@@ -1,27 +1,18 @@
 -- Pair k of a leg is made of start k / n and end k % n, where n ends are tried. A fold over one element more.
 use mathlib.Core.Path.{_≡_, refl, sym, ap, _∙_}
-use mathlib.Core.Bool.{Bool, true, false}
-use mathlib.Core.Logic.{_⊎_, inl, inr, ⊎-elim}
+use mathlib.Core.Logic.{⊎-elim}
 use mathlib.Core.List.{List, [], _∷_, _++_, map}
 use Prim.Native.Nat.{ℕ, zero, suc, _+_, _-_, _*_, _/_, _%_, _<_, _≤_}
 use native.Mathlib.Nat.{suc-mul, mul-zero, zero-mul, div-eq-of-lt, mod-eq-of-lt, mod-eq-sub-mod, div-eq-sub-div, not-suc-le-zero, le-of-suc-le-suc, div-lt-iff-lt-mul, mod-lt, mul-le-mul}
 use native.Mathlib.Numerals.{add-one}
 use native.Mathlib.Omega.{arith}
-use borrow.Author.Tests.{ltb-true, ltb-false}
-use lib.Dec.{ltb}
 use lib.ListN.{length, getD, take, length-append, length-take, length-map, List·getD-append}
 use lib.Seq.{take-all, take-take, getD-append-add, take-suc, length-take-le, getD-take}
 use Rattle.model.specs.declared.Candidate.{Candidate}
 use Rattle.model.specs.Lists.{fold}
 use Rattle.model.specs.Legs.{Pair, pair, pairs, leg-pairs}
+use Rattle.bounds.proofs.Choices.{below-or-not}
 use Rattle.pairs.specs.Sorted.{tried, no-candidate, pair-number}
-
-by-test : (a b : ℕ) (t : Bool) → ltb a b ≡ t → (a < b) ⊎ (b ≤ a)
-by-test a b true e = inl (ltb-true a b e)
-by-test a b false e = inr (ltb-false a b e)
-
-pub lt-or-ge : (a b : ℕ) → (a < b) ⊎ (b ≤ a)
-lt-or-ge a b = by-test a b (ltb a b) refl
 
 -- ---- lists
 
@@ -47,7 +38,7 @@ hundred m n a b = mul-le-mul a b
 
 module _ (m n k : ℕ) (h : k < m * n) where
   pub some-ends : 0 < n
-  some-ends = ⊎-elim (λ p. p) (λ (z : n ≤ 0). absurd (let e : n ≡ 0 = omega arith in let q : m * n ≡ 0 = rw e (mul-zero m) in omega arith)) (lt-or-ge 0 n)
+  some-ends = ⊎-elim (λ p. p) (λ (z : n ≤ 0). absurd (let e : n ≡ 0 = omega arith in let q : m * n ≡ 0 = rw e (mul-zero m) in omega arith)) (below-or-not 0 n)
 
   pub start-below : k / n < m
   start-below = div-lt-iff-lt-mul {k = n} {x = k} {y = m} some-ends .1 h
@@ -81,7 +72,7 @@ module _ (ys : List Candidate) where
         ∙ getD-append-add (map (pair a) ys) (pairs xs ys) (k - n) d
         ∙ pair-at xs (k - n) more
         ∙ sym (rw (div-eq-sub-div (some-ends (length (a ∷ xs)) n k h) w, mod-eq-sub-mod w, add-one ((k - n) / n))))
-        (lt-or-ge k (length ys))
+        (below-or-not k (length ys))
 
 -- ---- the pairs of a leg, whose candidates are the first of two arrays
 
@@ -90,7 +81,7 @@ first-tried n l = ⊎-elim
     (λ (w : n < 10). let e : tried n ≡ n = omega arith in
     rw e (take-all 10 (take n l) (let t = length-take n l in omega arith)))
     (λ (w : 10 ≤ n). let e : tried n ≡ 10 = omega arith in rw e (take-take 10 n l w))
-    (lt-or-ge n 10)
+    (below-or-not n 10)
 
 module _ (xs ys : List Candidate) (nx ny : ℕ) (hx : 10 ≤ length xs) (hy : 10 ≤ length ys) where
   abbrev ps : List Pair

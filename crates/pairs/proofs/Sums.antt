@@ -11,7 +11,8 @@ use Rattle.model.specs.declared.Candidate.{Candidate}
 use Rattle.model.specs.Lists.{sort}
 use Rattle.model.specs.Legs.{Pair, pair, leg-pairs, by-sum}
 use Rattle.pairs.specs.Sorted.{tried, no-candidate, pair-number, lower-sum, sorted, Under, Summed, Sorted}
-use Rattle.pairs.proofs.PairLaws.{lt-or-ge, getD-map, hundred, leg-pair-at, leg-pairs-long, all-pairs}
+use Rattle.bounds.proofs.Choices.{below-or-not}
+use Rattle.pairs.proofs.PairLaws.{getD-map, hundred, leg-pair-at, leg-pairs-long, all-pairs}
 use Rattle.pairs.proofs.Numbers.{under-at, sorted-under, sorted-is}
 
 module _ (starts ends : List Candidate) (n : ℕ) where
@@ -23,7 +24,7 @@ module _ (starts ends : List Candidate) (n : ℕ) where
     each = λ j g. ⊎-elim
         (λ (w : j < k). getD-set-other sums k j (pair-number starts ends n k .sum) nan (λ e. omega arith) ∙ s .each j w)
         (λ (w : k ≤ j). let e : j ≡ k = omega arith in rw e (getD-set-same sums k (pair-number starts ends n k .sum) nan h))
-        (lt-or-ge j k);
+        (below-or-not j k);
   }
 
 map-same : {A : Type 0} (f g : ℕ → A) (n : ℕ) (l : List ℕ) → Under n l → ((i : ℕ) → i < n → f i ≡ g i) → map f l ≡ map g l

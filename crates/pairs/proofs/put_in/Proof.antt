@@ -3,7 +3,7 @@ use Prim.Native.Nat.{_≤_, _-_}
 use native.Mathlib.Omega.{arith}
 use denote.Ref.{now}
 use lib.ListN.{length-set}
-use Rattle.pairs.proofs.Moving.{Moved, moved-none, moved-more, put}
+use Rattle.bounds.proofs.Shifted.{Moved, moved-none, moved-more, put}
 use Rattle.pairs.proofs.put_in.Statement.{statement}
 use Rattle.pairs.proofs.put_in.Tie as tie
 

@@ -13,7 +13,7 @@ use Rattle.sheet.proofs.Stops.{candidates-few}
 use Rattle.candidates.specs.Found.{no-candidate}
 use Rattle.candidates.proofs.Turns.{next-kept, next-dropped, found-most, found-all}
 use Rattle.candidates.proofs.Gathered.{sorted, row-candidate, row-kept, row-dropped}
-use Rattle.candidates.proofs.Shifted.{Moved, moved-none, moved-more}
+use Rattle.bounds.proofs.Shifted.{Moved, moved-none, moved-more}
 use Rattle.candidates.proofs.find.find_candidates.Statement.{statement}
 use Rattle.candidates.proofs.find.find_candidates.Tie as tie
 

@@ -67,7 +67,7 @@ module _ {A : Type 0} (d : A) (xs : List A) (n : ℕ) where
         (below-or-not j (k + 1)))
         (below-or-not j k)
 
-    put : take (n + 1) (set out k c) ≡ take k xs ++ (c ∷ take (n - k) (drop k xs))
+    pub put : take (n + 1) (set out k c) ≡ take k xs ++ (c ∷ take (n - k) (drop k xs))
     unfolding whole
     put =
         let l : length (take (n + 1) (set out k c)) ≡ n + 1 = length-take-le (n + 1) (set out k c) (simp length-set (let e = m .long in omega arith)) in
