@@ -1,11 +1,20 @@
-// The penalties and the distances of the query that is asked.
+// The permitted roads, the penalties and the distances of the query that is asked.
 use crate::Ask;
 use model::Counts;
 use model::Road;
+use road_network::road_class;
 use sheet::distances::GoalRow;
 ghost use mathlib.Core.Path.{_≡_};
 ghost use Prim.Native.Nat.{_<_};
+ghost use Rattle.model.specs.View.{allows};
 ghost use Rattle.search.specs.Ask.{penalty-by, query-at, Ready};
+
+// Whether the search may take road r: by its class, or as a slip road.
+pub fn permits(ask: Ask, r: Road) -> bool
+    ensures { λ b. ⌜ b ≡ allows (ask .class) r ⌝ }
+{
+    road_class::allows(ask.class, r)
+}
 
 // What a road costs beside its length: slip wins over access.
 pub fn penalty(ask: Ask, r: Road) -> f64

@@ -5,7 +5,6 @@ use crate::offers::offer_of;
 use crate::query;
 use model::Counts;
 use model::Road;
-use road_network::road_class;
 use sheet::distances::GoalRow;
 use sheet::roads;
 ghost use mathlib.Core.Path.{_≡_};
@@ -157,7 +156,7 @@ pub fn relax_all(
         let k = roads::entry(s, c, i);
         let r = roads::road(s, c, k);
         i += 1;
-        if road_class::allows(ask.class, r) {
+        if query::permits(ask, r) {
             let x = relax(
                 s,
                 c,

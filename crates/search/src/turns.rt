@@ -70,6 +70,7 @@ fn visit(
 {
     let u = node[e];
     let g = cost[e];
+    let kept = penalised[u];
     if u == ask.goal {
         return Turn {
             progress: Progress::Found,
@@ -77,7 +78,7 @@ fn visit(
             made,
         };
     }
-    if penalised[u] < g {
+    if kept < g {
         return Turn {
             progress: Progress::Looking,
             len,

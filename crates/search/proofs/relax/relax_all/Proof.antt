@@ -63,8 +63,8 @@ add-i c =
     let start = c .before .before .before .before .before .before .before .before .before .before .before .before .before .before in
     omega (arith, c .before .before .loop-test .taken, c .before .before .before .loop .inv .0, start .pre .0 .0 .formed .sound .small .e)
 
-allows-requires : tie.Need-allows-requires Inv-loop μ-loop
-allows-requires c κs = search needs
+permits-requires : tie.Need-permits-requires Inv-loop μ-loop
+permits-requires c κs = search needs
 
 relax-requires : tie.Need-relax-requires Inv-loop μ-loop
 relax-requires c κs =
@@ -131,12 +131,12 @@ returns c =
     let entry = c .before .before .before .before .before .before .before .before .before .before .before .before .before .before .before .before .before .before .before .before .before .before .before .before .before .before .before .entry in
     let loop = c .before .before .before .before .before .before .before .before .before .before .before .before .before .before .before .before .before .before .before .before .before .before .before .before .before .before .before .before .before .loop in
     let loop-test = c .before .before .before .before .before .before .before .before .before .before .before .before .before .before .before .before .before .before .before .before .before .before .before .before .before .before .before .before .loop-test in
-    let allows = c .before .before .before .before .before .before .before .before .before .before .before .before .before .before .before .before .before .before .before .before .before .before .before .before .before .allows in
+    let permits = c .before .before .before .before .before .before .before .before .before .before .before .before .before .before .before .before .before .before .before .before .before .before .before .before .before .permits in
     let if1 = c .before .before .before .before .before .before .before .before .before .before .before .before .before .before .before .before .before .before .before .before .before .before .before .before .if1 in
     let relax = c .before .before .before .before .before .before .before .before .before .before .before .before .before .before .before .before .relax in
     let a = start .args in
     let place = road .ensures .0 ∙ ap (road-at (sheet-of (a .s .now) (a .c))) (entry .ensures .0) in
-    (tt, rest-full (loop .inv .1) (loop-test .taken) place (sym (allows .ensures) ∙ if1 .taken) _ _ (relax .ensures .0) (relax .ensures .1) (c .enum-told .given .1))
+    (tt, rest-full (loop .inv .1) (loop-test .taken) place (sym (permits .ensures) ∙ if1 .taken) _ _ (relax .ensures .0) (relax .ensures .1) (c .enum-told .given .1))
 
 loop-less : tie.Need-loop-less Inv-loop μ-loop
 loop-less c =
@@ -150,12 +150,12 @@ loop-again c =
     let entry = c .before .before .before .before .before .before .before .before .before .before .before .before .before .before .before .before .before .before .before .before .before .before .before .before .before .before .before .before .entry in
     let loop = c .before .before .before .before .before .before .before .before .before .before .before .before .before .before .before .before .before .before .before .before .before .before .before .before .before .before .before .before .before .before .loop in
     let loop-test = c .before .before .before .before .before .before .before .before .before .before .before .before .before .before .before .before .before .before .before .before .before .before .before .before .before .before .before .before .before .loop-test in
-    let allows = c .before .before .before .before .before .before .before .before .before .before .before .before .before .before .before .before .before .before .before .before .before .before .before .before .before .before .allows in
+    let permits = c .before .before .before .before .before .before .before .before .before .before .before .before .before .before .before .before .before .before .before .before .before .before .before .before .before .before .permits in
     let if1 = c .before .before .before .before .before .before .before .before .before .before .before .before .before .before .before .before .before .before .before .before .before .before .before .before .before .if1 in
     let relax = c .before .before .before .before .before .before .before .before .before .before .before .before .before .before .before .before .before .relax in
     let a = start .args in
     let place = road .ensures .0 ∙ ap (road-at (sheet-of (a .s .now) (a .c))) (entry .ensures .0) in
-    (loop .inv .0, rest-done (loop .inv .1) (loop-test .taken) place (sym (allows .ensures) ∙ if1 .taken) _ _ (relax .ensures .0) (relax .ensures .1) (c .before .x .given .1))
+    (loop .inv .0, rest-done (loop .inv .1) (loop-test .taken) place (sym (permits .ensures) ∙ if1 .taken) _ _ (relax .ensures .0) (relax .ensures .1) (c .before .x .given .1))
 
 loop-less-2 : tie.Need-loop-less-2 Inv-loop μ-loop
 loop-less-2 c =
@@ -169,7 +169,7 @@ loop-again-2 c =
     let loop-test = c .before .before .before .before .loop-test in
     let a = start .args in
     let place = c .before .before .road .ensures .0 ∙ ap (road-at (sheet-of (a .s .now) (a .c))) (c .before .before .before .entry .ensures .0) in
-    (loop .inv .0, rest-skip (loop .inv .1) (loop-test .taken) place (sym (c .before .allows .ensures) ∙ c .if1 .left))
+    (loop .inv .0, rest-skip (loop .inv .1) (loop-test .taken) place (sym (c .before .permits .ensures) ∙ c .if1 .left))
 
 same-length-8 : tie.Need-same-length-8 Inv-loop μ-loop
 same-length-8 c = c .before .loop .inv .1 .kept .sizes .real
@@ -210,7 +210,7 @@ relax-all-spec =
     entry-requires
     road-requires
     add-i
-    allows-requires
+    permits-requires
     relax-requires
     enum-known-x
     enum-told

@@ -25,33 +25,33 @@ mul-g c = search needs
 slice-read-g : tie.Need-slice-read-g
 slice-read-g c = search needs
 
+mul-kept : tie.Need-mul-kept
+mul-kept c =
+    let start = c .before .before .before .before .before .before .before .before .before .before in
+    let p = start .pre in
+    omega (arith, p .1 .nodes _ (p .2), p .1 .sized .penalised)
+
+slice-read-kept : tie.Need-slice-read-kept
+slice-read-kept c =
+    let start = c .before .before .before .before .before .before .before .before .before .before .before in
+    let p = start .pre in
+    omega (arith, p .1 .nodes _ (p .2), p .1 .sized .penalised)
+
 returns : tie.Need-returns
 unfolding asked
 returns c =
-    let start = c .before .before .before .before .before .before .before .before .before .before .before .before in
+    let start = c .before .before .before .before .before .before .before .before .before .before .before .before .before in
     let if1 = c .if1 in
     let p = start .pre in
     let reached = subst (λ (v : ℕ). getD (start .args .came-from .now) v 0 ≢ unreached) (if1 .taken) (p .1 .reached _ (p .2)) in
     ((found-proper (p .1), reached, refl, le-refl _), λ steps. visit-found _ _ (p .1) _ (p .2) steps (if1 .taken))
-
-mul-if2 : tie.Need-mul-if2
-mul-if2 c =
-    let start = c .before .before .before .before .before .before .before .before .before .before .before .before in
-    let p = start .pre in
-    omega (arith, p .1 .nodes _ (p .2), p .1 .sized .penalised)
-
-slice-read-if2 : tie.Need-slice-read-if2
-slice-read-if2 c =
-    let start = c .before .before .before .before .before .before .before .before .before .before .before .before .before in
-    let p = start .pre in
-    omega (arith, p .1 .nodes _ (p .2), p .1 .sized .penalised)
 
 returns-2 : tie.Need-returns-2
 unfolding asked
 returns-2 c =
     let start = c .before .before .before .before .before .before .before .before .before .before .before .before .before .before in
     let p = start .pre in
-    (kept-same (p .1), λ steps. visit-old _ _ (p .1) _ (p .2) steps (c .before .before .if1 .left) (c .if2 .taken))
+    (kept-same (p .1), λ steps. visit-old _ _ (p .1) _ (p .2) steps (c .before .if1 .left) (c .if2 .taken))
 
 relax-all-requires : tie.Need-relax-all-requires
 relax-all-requires c κs =
@@ -88,7 +88,7 @@ unfolding asked
 returns-3 c =
     let start = c .before .before .before .before .before .before .before .before .before .before .before .before .before .before .before .before .before .before .before .before .before .before .before .before .before .before .before .before .before .before .before .before .before .before .before .before .before in
     let relax-all = c .before .before .before .before .before .before .before .before .before .before .before .before .before .before .before .relax-all in
-    let if1 = c .before .before .before .before .before .before .before .before .before .before .before .before .before .before .before .before .before .before .before .before .before .before .before .before .before .if1 in
+    let if1 = c .before .before .before .before .before .before .before .before .before .before .before .before .before .before .before .before .before .before .before .before .before .before .before .before .if1 in
     let if2 = c .before .before .before .before .before .before .before .before .before .before .before .before .before .before .before .before .before .before .before .before .before .before .before .if2 in
     let p = start .pre in
     let l = relax-all .last .1 .1 .1 .1 .1 in
@@ -106,9 +106,9 @@ visit-spec =
     slice-read-u
     mul-g
     slice-read-g
+    mul-kept
+    slice-read-kept
     returns
-    mul-if2
-    slice-read-if2
     returns-2
     relax-all-requires
     settle-requires
