@@ -1,0 +1,3 @@
+// The walks along forced ways at both ends of a path.
+pub mod caps;
+pub mod lists;
