@@ -1,0 +1,2 @@
+-- What a walk and the ends leave in the list of the path.
+pub mod Post
