@@ -1,3 +1,4 @@
 pub mod Meets
 pub mod Snapping
 pub mod Turns
+pub mod Grow
