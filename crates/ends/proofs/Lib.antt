@@ -2,3 +2,4 @@ pub mod Meets
 pub mod Snapping
 pub mod Turns
 pub mod Grow
+pub mod Finish
