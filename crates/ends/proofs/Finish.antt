@@ -1,10 +1,10 @@
 -- Both ends together.
-use Prim.Native.Nat.{ℕ, _+_, _-_, _*_, _≤_, _<_}
+use Prim.Native.Nat.{ℕ, _+_, _-_, _*_, _≤_}
 use native.Mathlib.Omega.{arith}
-use mathlib.Core.Path.{_≡_, refl, sym, ap, _∙_}
-use mathlib.Core.Option.{Option, some}
+use mathlib.Core.Path.{_≡_, sym, ap, _∙_}
+use mathlib.Core.Option.{some}
 use mathlib.Core.List.{List}
-use lib.ListN.{length, getD, take, drop}
+use lib.ListN.{length, getD, take}
 use lib.Seq.{length-take-le}
 use lib.Ieee.{Float}
 use Rattle.model.specs.Lists.{head, last, maybe}
@@ -12,7 +12,6 @@ use Rattle.model.specs.Sheet.{Sheet, road-at}
 use Rattle.model.specs.Ends.{End, Ends, at-end, at-start, extend-ends, part-of, offset-fraction}
 use Rattle.ends.specs.Whole.{Grows, Finished}
 use Rattle.ends.specs.declared.Grown.{Grown}
-use Rattle.ends.specs.declared.Final.{Final}
 use Rattle.ends.proofs.Grow.{last-part, head-is}
 
 module _ (t : Sheet) (sc ec so eo : Float) (p n e : ℕ) (ids₀ ids₁ ids₂ : List ℕ) {F B : Grown} (fits : p + 4 * n ≤ length ids₀)

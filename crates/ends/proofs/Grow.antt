@@ -4,7 +4,7 @@ use native.Mathlib.Omega.{arith}
 use mathlib.Core.Path.{_≡_, refl, sym, ap, subst, _∙_}
 use mathlib.Core.Logic.{inl, inr}
 use mathlib.Core.Bool.{Bool, true, false, cond}
-use mathlib.Core.Option.{Option, none, some}
+use mathlib.Core.Option.{none, some}
 use mathlib.Core.List.{List, [], _∷_, _++_, reverse, reverse-append, reverse-reverse, append-assoc, List·Memᴰ·append-cases, Memᴰ·append-left, Memᴰ·append-right}
 use lib.ListN.{length, getD, take, drop, length-append, length-reverse}
 use lib.Seq.{take-suc, drop-append-le, length-take-le, getD-take, take-at, drop-at, length-slice}
@@ -12,12 +12,11 @@ use lib.Ieee.{Float}
 use Rattle.model.specs.Numbers.{_⊕_, _<ᶠ_, f0}
 use Rattle.model.specs.Lists.{In, head, last, maybe}
 use Rattle.model.specs.Sheet.{Sheet, road-at}
-use Rattle.model.specs.Ends.{Walk, extension, lrp-prefers, End, at-end, at-start}
+use Rattle.model.specs.Ends.{extension, lrp-prefers, End, at-end, at-start}
 use Rattle.model.proofs.Members.{in-getD}
 use Rattle.bounds.proofs.EndBound.{in-reverse, in-place}
-use Rattle.ends.specs.Post.{Numbers, behind, Kept-as, Answers, Extended}
+use Rattle.ends.specs.Post.{Numbers, behind, Kept-as, Extended}
 use Rattle.ends.specs.Whole.{Grows}
-use Rattle.ends.specs.declared.Grown.{Grown}
 use Rattle.ends.specs.declared.walks.Extension.{Extension}
 use Rattle.ends.specs.declared.walks.Extension.the-variants.{Kept, Dropped}
 use Rattle.ends.proofs.Turns.{whole}

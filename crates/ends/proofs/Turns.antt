@@ -1,20 +1,20 @@
 -- One turn of a walk in the list of the path, against the definition.
-use Prim.Native.Nat.{ℕ, zero, suc, _+_, _-_, _*_, _≤_, _<_}
+use Prim.Native.Nat.{ℕ, suc, _+_, _-_, _*_, _≤_, _<_}
 use native.Mathlib.Omega.{arith}
 use native.Mathlib.Numerals.{add-one}
 use mathlib.Core.Path.{_≡_, refl, sym, ap, subst, _∙_}
 use mathlib.Core.Logic.{inl, inr}
 use mathlib.Core.Bool.{Bool, true, false, cond}
-use mathlib.Core.Option.{Option, none, some}
+use mathlib.Core.Option.{none, some}
 use mathlib.Core.List.{List, [], _∷_, _++_, List·Memᴰ·not-nil, List·Memᴰ·append-cases, List·Memᴰ·eq-of-singleton, Memᴰ·append-right}
 use lib.Dec.{T, eqb}
-use lib.ListN.{length, getD, set, take, drop, length-set, take-append-drop, length-append}
+use lib.ListN.{length, set, take, drop, length-set, take-append-drop, length-append}
 use lib.Seq.{slice-empty, length-slice, take-take, take-suc-set, take-set-le, drop-append-le, length-take-le, getD-set-same, getD-set-other}
 use lib.Ieee.{Float}
 use lib.Ieee.Fits.{eq→eqb}
 use borrow.Author.Tests.{eq-eqb, ne-eqb}
 use Rattle.model.specs.Numbers.{_⊕_, _<ᶠ_, f0}
-use Rattle.model.specs.Lists.{In, maybe}
+use Rattle.model.specs.Lists.{maybe}
 use Rattle.model.specs.Sheet.{Sheet, road-at}
 use Rattle.model.specs.Ends.{Walk, fresh, with-road, meets, walked, way, walk, extension}
 use Rattle.model.proofs.Members.{any-of}
@@ -23,8 +23,7 @@ use Rattle.bounds.proofs.AmountLaws.{zero-amount}
 use Rattle.bounds.proofs.Choices.{below-or-not}
 use Rattle.bounds.proofs.Pigeon.{Other, distinct-snoc}
 use Rattle.bounds.proofs.WalkBound.{Forced, Trail, way-forced, trail-few}
-use Rattle.ends.specs.Post.{Numbers, behind, Kept-as, Answers, Extended}
-use Rattle.ends.specs.declared.walks.Extension.{Extension}
+use Rattle.ends.specs.Post.{Numbers, Extended}
 use Rattle.ends.specs.declared.walks.Extension.the-variants.{Kept, Dropped}
 
 -- ---- the list: the path, then what is added

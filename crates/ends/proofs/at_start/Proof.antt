@@ -8,116 +8,84 @@ use mathlib.Core.Path.{sym, ap}
 use borrow.Author.Needs.{needs}
 use Rattle.ends.proofs.at_start.Statement.{statement}
 use Rattle.ends.proofs.at_start.Tie as tie
-use Rattle.ends.proofs.at_start.Reads as reads
-use Rattle.ends.proofs.at_start.Lts as lts
-use Rattle.ends.proofs.lists.reverse.Reads as reverse-reads
-use Rattle.ends.proofs.walks.extend.Reads as extend-reads
-use Rattle.sheet.proofs.distances.from_first.Reads as from-first-reads
-use Rattle.sheet.proofs.roads.source.Reads as source-reads
 
--- src/lib.rt:51:13
 slice-read-r : tie.Need-slice-read-r
 slice-read-r c = search needs
 
--- src/lib.rt:52:33
 extend-requires : tie.Need-extend-requires
 extend-requires c κs = (c .before .before .before .before .pre .0, c .before .before .before .before .pre .3 _ (c .before .before .before .before .pre .1), c .before .before .before .before .pre .2, c .before .before .before .before .pre .3)
 
--- src/lib.rt:52:25
 enum-known-k : tie.Need-enum-known-k
 enum-known-k c = search needs
 
--- src/lib.rt:53:9
 enum-told : tie.Need-enum-told
 enum-told c = search needs
 
--- src/lib.rt:53:9
 same-length : tie.Need-same-length
 same-length c = search needs
 
--- src/lib.rt:53:9
 returns : tie.Need-returns
 returns c = start-dropped _ _ _ _ _ _ _ (c .before .before .before .before .before .before .before .before .before .pre .1) (c .before .before .before .before .before .before .before .before .before .pre .2) (c .before .before .before .before .before .before .before .before .before .pre .3) (c .before .before .before .before .extend .ensures) (c .enum-told .given .1)
 
--- src/lib.rt:55:15
 add-all : tie.Need-add-all
 add-all c = omega (arith, (rw (c .before .k .given .1) at (c .before .before .before .before .before .extend .ensures .answer)) .few, (rw (c .before .k .given .1) at (c .before .before .before .before .before .extend .ensures .answer)) .some-added, c .before .before .before .before .before .extend .kept .1 .1 .1 .1 .0, c .before .before .before .before .before .before .before .before .before .before .pre .2, c .before .before .before .before .before .before .before .before .before .before .good)
 
--- src/lib.rt:56:17
 sub-x : tie.Need-sub-x
 sub-x c = search needs
 
--- src/lib.rt:56:13
 mul-x : tie.Need-mul-x
 mul-x c = omega (arith, (rw (c .before .k .given .1) at (c .before .before .before .before .before .extend .ensures .answer)) .few, (rw (c .before .k .given .1) at (c .before .before .before .before .before .extend .ensures .answer)) .some-added, c .before .before .before .before .before .extend .kept .1 .1 .1 .1 .0, c .before .before .before .before .before .before .before .before .before .before .pre .2, c .before .before .before .before .before .before .before .before .before .before .good)
 
--- src/lib.rt:56:13
 slice-read-x : tie.Need-slice-read-x
 slice-read-x c = omega (arith, (rw (c .before .before .k .given .1) at (c .before .before .before .before .before .before .extend .ensures .answer)) .few, (rw (c .before .before .k .given .1) at (c .before .before .before .before .before .before .extend .ensures .answer)) .some-added, c .before .before .before .before .before .before .extend .kept .1 .1 .1 .1 .0, c .before .before .before .before .before .before .before .before .before .before .before .pre .2, c .before .before .before .before .before .before .before .before .before .before .before .good)
 
--- src/lib.rt:57:9
 source-requires : tie.Need-source-requires
 source-requires c κs = (c .before .before .before .before .before .before .before .before .before .before .before .pre .0, (rw (c .before .before .k .given .1) at (c .before .before .before .before .before .before .extend .ensures .answer)) .numbers _ (omega (arith, (rw (c .before .before .k .given .1) at (c .before .before .before .before .before .before .extend .ensures .answer)) .some-added)))
 
--- src/lib.rt:58:9
 source-requires-2 : tie.Need-source-requires-2
 source-requires-2 c κs = (c .before .before .before .before .before .before .before .before .before .before .before .before .pre .0, c .before .before .before .before .before .before .before .before .before .before .before .before .pre .3 _ (c .before .before .before .before .before .before .before .before .before .before .before .before .pre .1))
 
--- src/lib.rt:59:8
 from-first-requires : tie.Need-from-first-requires
 from-first-requires c κs = search needs
 
--- src/lib.rt:59:43
 from-first-requires-2 : tie.Need-from-first-requires-2
 from-first-requires-2 c κs = search needs
 
--- src/lib.rt:60:24
 slice-relend-prefix-reverse : tie.Need-slice-relend-prefix-reverse
 slice-relend-prefix-reverse c = omega (arith, (rw (c .before .before .before .before .before .before .before .k .given .1) at (c .before .before .before .before .before .before .before .before .before .before .before .extend .ensures .answer)) .few, (rw (c .before .before .before .before .before .before .before .k .given .1) at (c .before .before .before .before .before .before .before .before .before .before .before .extend .ensures .answer)) .some-added, c .before .before .before .before .before .before .before .before .before .before .before .extend .kept .1 .1 .1 .1 .0, c .before .before .before .before .before .before .before .before .before .before .before .before .before .before .before .before .pre .2, c .before .before .before .before .before .before .before .before .before .before .before .before .before .before .before .before .good)
 
--- src/lib.rt:60:24
 slice-aggregate-reverse : tie.Need-slice-aggregate-reverse
 slice-aggregate-reverse c = sym (length-take-le (c .before .before .before .before .before .before .before .before .before .before .before .before .before .before .before .before .before .args .n + c .before .before .before .before .before .before .before .before .k .given .0 .0) (c .before .before .before .before .before .before .before .before .before .before .before .before .extend .last .1 .1 .1 .1 .0) (omega (arith, (rw (c .before .before .before .before .before .before .before .before .k .given .1) at (c .before .before .before .before .before .before .before .before .before .before .before .before .extend .ensures .answer)) .few, (rw (c .before .before .before .before .before .before .before .before .k .given .1) at (c .before .before .before .before .before .before .before .before .before .before .before .before .extend .ensures .answer)) .some-added, c .before .before .before .before .before .before .before .before .before .before .before .before .extend .kept .1 .1 .1 .1 .0, c .before .before .before .before .before .before .before .before .before .before .before .before .before .before .before .before .before .pre .2, c .before .before .before .before .before .before .before .before .before .before .before .before .before .before .before .before .before .good)))
 
--- src/lib.rt:60:9
 reverse-requires : tie.Need-reverse-requires
 reverse-requires c κs = search needs
 
--- src/lib.rt:61:24
 mul-reverse : tie.Need-mul-reverse
 mul-reverse c = omega (arith, (rw (c .before .before .before .before .before .before .before .before .before .before .before .k .given .1) at (c .before .before .before .before .before .before .before .before .before .before .before .before .before .before .before .extend .ensures .answer)) .few, (rw (c .before .before .before .before .before .before .before .before .before .before .before .k .given .1) at (c .before .before .before .before .before .before .before .before .before .before .before .before .before .before .before .extend .ensures .answer)) .some-added, c .before .before .before .before .before .before .before .before .before .before .before .before .before .before .before .extend .kept .1 .1 .1 .1 .0, c .before .before .before .before .before .before .before .before .before .before .before .before .before .before .before .before .before .before .before .before .pre .2, c .before .before .before .before .before .before .before .before .before .before .before .before .before .before .before .before .before .before .before .before .good)
 
--- src/lib.rt:61:24
 sub-reverse : tie.Need-sub-reverse
 sub-reverse c = search needs
 
--- src/lib.rt:61:24
 part-reverse-start : tie.Need-part-reverse-start
 part-reverse-start c = search needs
 
--- src/lib.rt:61:24
 part-reverse-end : tie.Need-part-reverse-end
 part-reverse-end c = omega (arith, (rw (c .before .before .before .before .before .before .before .before .before .before .before .k .given .1) at (c .before .before .before .before .before .before .before .before .before .before .before .before .before .before .before .extend .ensures .answer)) .few, c .before .before .before .before .before .before .before .before .before .before .before .before .before .before .before .extend .kept .1 .1 .1 .1 .0, c .before .before .before .before .before .before .before .before .before .before .before .before .before .before .before .before .before .before .before .before .pre .2, length-front (c .before .before .before .before .before .before .before .before .before .before .before .before .before .before .before .extend .last .1 .1 .1 .1 .0) (c .before .before .reverse .last .0) (c .before .before .before .before .before .before .before .before .before .before .before .before .before .before .before .before .before .before .before .before .args .n + c .before .before .before .before .before .before .before .before .before .before .before .k .given .0 .0) (c .before .before .reverse .kept .0))
 
--- src/lib.rt:61:9
 reverse-requires-2 : tie.Need-reverse-requires-2
 reverse-requires-2 c κs = search needs
 
--- src/lib.rt:62:9
 same-length-2 : tie.Need-same-length-2
 same-length-2 c = search needs
 
--- src/lib.rt:62:9
 returns-2 : tie.Need-returns-2
 returns-2 c = start-near _ _ _ _ _ _ _ (c .before .before .before .before .before .before .before .before .before .before .before .before .before .before .before .before .before .before .before .before .before .before .before .before .pre .1) (c .before .before .before .before .before .before .before .before .before .before .before .before .before .before .before .before .before .before .before .before .before .before .before .before .pre .2) (c .before .before .before .before .before .before .before .before .before .before .before .before .before .before .before .before .before .before .before .before .before .before .before .before .pre .3) (c .before .before .before .before .before .before .before .before .before .before .before .before .before .before .before .before .before .before .before .extend .ensures) (c .before .before .before .before .before .before .before .before .before .before .before .before .before .before .before .k .given .1) (c .before .before .before .before .before .before .before .before .before .before .before .before .before .before .before .before .before .before .before .extend .kept .1 .1 .1 .1 .0) (c .before .before .before .before .before .before .before .before .before .before .before .before .source .ensures .0) (c .before .before .before .before .before .before .before .before .before .before .before .source2 .ensures .0) (c .before .before .before .before .before .before .before .before .before .before .from-first .ensures) (c .before .before .before .before .before .before .before .before .before .from-first2 .ensures) (c .before .before .before .before .before .before .before .before .if1 .taken)
     (turned-path (c .before .before .before .before .before .before .before .before .before .before .before .before .before .before .before .before .before .before .before .before .before .before .before .before .args .n) (c .before .before .before .before .before .before .before .before .before .before .before .before .before .before .before .k .given .0 .0) (c .before .before .before .before .before .before .before .before .before .before .before .before .before .before .before .before .before .before .before .extend .last .1 .1 .1 .1 .0) (omega (arith, (rw (c .before .before .before .before .before .before .before .before .before .before .before .before .before .before .before .k .given .1) at (c .before .before .before .before .before .before .before .before .before .before .before .before .before .before .before .before .before .before .before .extend .ensures .answer)) .few, (rw (c .before .before .before .before .before .before .before .before .before .before .before .before .before .before .before .k .given .1) at (c .before .before .before .before .before .before .before .before .before .before .before .before .before .before .before .before .before .before .before .extend .ensures .answer)) .some-added, c .before .before .before .before .before .before .before .before .before .before .before .before .before .before .before .before .before .before .before .extend .kept .1 .1 .1 .1 .0, c .before .before .before .before .before .before .before .before .before .before .before .before .before .before .before .before .before .before .before .before .before .before .before .before .pre .2, c .before .before .before .before .before .before .before .before .before .before .before .before .before .before .before .before .before .before .before .before .before .before .before .before .good))
     (turned-twice (c .before .before .before .before .before .before .before .before .before .before .before .before .before .before .before .before .before .before .before .before .before .before .before .before .args .n) (c .before .before .before .before .before .before .before .before .before .before .before .before .before .before .before .k .given .0 .0) (c .before .before .before .before .before .before .before .before .before .before .before .before .before .before .before .before .before .before .before .extend .last .1 .1 .1 .1 .0) (omega (arith, (rw (c .before .before .before .before .before .before .before .before .before .before .before .before .before .before .before .k .given .1) at (c .before .before .before .before .before .before .before .before .before .before .before .before .before .before .before .before .before .before .before .extend .ensures .answer)) .few, (rw (c .before .before .before .before .before .before .before .before .before .before .before .before .before .before .before .k .given .1) at (c .before .before .before .before .before .before .before .before .before .before .before .before .before .before .before .before .before .before .before .extend .ensures .answer)) .some-added, c .before .before .before .before .before .before .before .before .before .before .before .before .before .before .before .before .before .before .before .extend .kept .1 .1 .1 .1 .0, c .before .before .before .before .before .before .before .before .before .before .before .before .before .before .before .before .before .before .before .before .before .before .before .before .pre .2, c .before .before .before .before .before .before .before .before .before .before .before .before .before .before .before .before .before .before .before .before .before .before .before .before .good)) (ap (λ (l : List ℕ). l ++ drop (c .before .before .before .before .before .before .before .before .before .before .before .before .before .before .before .before .before .before .before .before .before .before .before .before .args .n + c .before .before .before .before .before .before .before .before .before .before .before .before .before .before .before .k .given .0 .0) (c .before .before .before .before .before .before .before .before .before .before .before .before .before .before .before .before .before .before .before .extend .last .1 .1 .1 .1 .0)) (c .before .before .before .before .before .before .reverse .ensures)) (c .before .before .reverse2 .ensures)))
 
--- src/lib.rt:47:1
 same-length-3 : tie.Need-same-length-3
 same-length-3 c = search needs
 
--- src/lib.rt:47:1
 returns-3 : tie.Need-returns-3
 returns-3 c = start-far _ _ _ _ _ _ _ (c .before .before .before .before .before .before .before .before .before .before .before .before .before .before .before .before .pre .1) (c .before .before .before .before .before .before .before .before .before .before .before .before .before .before .before .before .pre .2) (c .before .before .before .before .before .before .before .before .before .before .before .before .before .before .before .before .pre .3) (c .before .before .before .before .before .before .before .before .before .before .before .extend .ensures) (c .before .before .before .before .before .before .before .k .given .1) (c .before .before .before .before .before .before .before .before .before .before .before .extend .kept .1 .1 .1 .1 .0) (c .before .before .before .before .source .ensures .0) (c .before .before .before .source2 .ensures .0) (c .before .before .from-first .ensures) (c .before .from-first2 .ensures) (c .if1 .left)
 

@@ -5,58 +5,40 @@ use mathlib.Core.Path.{ap, _∙_}
 use borrow.Author.Needs.{needs}
 use Rattle.ends.proofs.finalize_path.Statement.{statement}
 use Rattle.ends.proofs.finalize_path.Tie as tie
-use Rattle.ends.proofs.finalize_path.Reads as reads
-use Rattle.ends.proofs.finalize_path.Lts as lts
-use Rattle.ends.proofs.at_end.Reads as at-end-reads
-use Rattle.ends.proofs.at_start.Reads as at-start-reads
-use Rattle.ends.proofs.caps.part_of.Reads as part-of-reads
-use Rattle.sheet.proofs.roads.metres.Reads as metres-reads
 
--- src/lib.rt:93:9
 at-end-requires : tie.Need-at-end-requires
 at-end-requires c κs = search needs
 
--- src/lib.rt:95:9
 at-start-requires : tie.Need-at-start-requires
 at-start-requires c κs = search needs
 
--- src/lib.rt:97:17
 slice-read-first : tie.Need-slice-read-first
 slice-read-first c = search needs
 
--- src/lib.rt:98:50
 metres-requires : tie.Need-metres-requires
 metres-requires c κs = (c .before .before .before .before .before .before .before .before .before .before .before .pre .0, c .before .before .before .at-start .ensures .numbers _ (c .before .before .before .at-start .ensures .some-road))
 
--- src/lib.rt:98:9
 part-of-requires : tie.Need-part-of-requires
 part-of-requires c κs = search needs
 
--- src/lib.rt:99:20
 sub-last : tie.Need-sub-last
 sub-last c = search needs
 
--- src/lib.rt:99:16
 mul-last : tie.Need-mul-last
 mul-last c = search needs
 
--- src/lib.rt:99:16
 slice-read-last : tie.Need-slice-read-last
 slice-read-last c = search needs
 
--- src/lib.rt:100:48
 metres-requires-2 : tie.Need-metres-requires-2
 metres-requires-2 c κs = (c .before .before .before .before .before .before .before .before .before .before .before .before .before .before .pre .0, c .before .before .before .before .before .before .at-start .ensures .numbers _ (omega (arith, c .before .before .before .before .before .before .at-start .ensures .some-road)))
 
--- src/lib.rt:100:9
 part-of-requires-2 : tie.Need-part-of-requires-2
 part-of-requires-2 c κs = search needs
 
--- src/lib.rt:80:1
 same-length : tie.Need-same-length
 same-length c = search needs
 
--- src/lib.rt:80:1
 returns : tie.Need-returns
 returns c = finished _ _ _ _ _ _ _ _ _ _ _ (c .before .before .before .before .before .before .before .before .before .before .before .before .before .before .before .before .pre .2) (c .before .before .before .before .before .before .before .before .before .before .before .before .at-end .ensures) (c .before .before .before .before .before .before .before .before .at-start .ensures) (c .before .before .before .before .before .before .before .before .at-start .kept .1 .1 .0 ∙ c .before .before .before .before .before .before .before .before .before .before .before .before .at-end .kept .1 .1 .0)
     (c .before .before .before .part-of .ensures ∙ ap (part-of (c .before .before .before .before .before .before .before .before .at-start .result .offset)) (c .before .before .before .before .metres .ensures)) (c .part-of2 .ensures ∙ ap (part-of (c .before .before .before .before .before .before .before .before .before .before .before .before .at-end .result .offset)) (c .before .metres2 .ensures))

@@ -3,8 +3,6 @@ use Prim.Native.Nat.{_-_}
 use native.Mathlib.Omega.{arith}
 use Rattle.ends.proofs.lists.met.Statement.{statement}
 use Rattle.ends.proofs.lists.met.Tie as tie
-use Rattle.ends.proofs.lists.met.Reads as reads
-use Rattle.ends.proofs.lists.met.Lts as lts
 
 abbrev Inv-loop : tie.InvT-loop
 Inv-loop ids n x i₀ i =
@@ -14,35 +12,27 @@ abbrev μ-loop : tie.MeasureT-loop
 μ-loop ids n x i₀ i =
     n - i
 
--- src/lists.rt:29:5
 loop-holds : tie.Need-loop-holds Inv-loop μ-loop
 loop-holds c = unmet-start (c .pre)
 
--- src/lists.rt:30:12
 mul-if1 : tie.Need-mul-if1 Inv-loop μ-loop
 mul-if1 c = omega (arith, c .before .loop .inv .fits)
 
--- src/lists.rt:30:12
 shared-slice-read-if1 : tie.Need-shared-slice-read-if1 Inv-loop μ-loop
 shared-slice-read-if1 c = omega (arith, c .before .before .loop .inv .fits)
 
--- src/lists.rt:31:13
 returns : tie.Need-returns Inv-loop μ-loop
 returns c = met-here (c .before .before .before .loop .inv) (c .before .before .loop-test .taken) (c .if1 .taken)
 
--- src/lists.rt:33:9
 add-i : tie.Need-add-i Inv-loop μ-loop
 add-i c = omega (arith, c .before .before .before .loop .inv .fits)
 
--- src/lists.rt:29:5
 loop-less : tie.Need-loop-less Inv-loop μ-loop
 loop-less c = omega (arith, c .before .before .before .loop .inv .fits)
 
--- src/lists.rt:29:5
 loop-again : tie.Need-loop-again Inv-loop μ-loop
 loop-again c = unmet-step (c .before .before .before .loop .inv) (c .before .before .loop-test .taken) (c .if1 .left)
 
--- src/lists.rt:24:1
 returns-2 : tie.Need-returns-2 Inv-loop μ-loop
 returns-2 c = unmet-end (c .before .loop .inv) (c .loop-test .left)
 

@@ -1,4 +1,4 @@
-use Rattle.ends.proofs.Turns.{Walking, walking-start, left-none, left-some, met-again, too-far, has-room, walking-step, dropped, kept}
+use Rattle.ends.proofs.Turns.{Walking, walking-start, left-none, met-again, too-far, has-room, walking-step, dropped, kept}
 use Rattle.bounds.proofs.FormedProof.{well-formed-formed}
 use Rattle.model.proofs.Parsed.{node-count}
 use Rattle.model.specs.Sheet.{sheet-of}
@@ -8,11 +8,6 @@ use borrow.Author.Needs.{needs}
 use native.Mathlib.Omega.{arith}
 use Rattle.ends.proofs.walks.extend.Statement.{statement}
 use Rattle.ends.proofs.walks.extend.Tie as tie
-use Rattle.ends.proofs.walks.extend.Reads as reads
-use Rattle.ends.proofs.walks.extend.Lts as lts
-use Rattle.ends.proofs.lists.met.Reads as met-reads
-use Rattle.ends.proofs.walks.forced.Reads as forced-reads
-use Rattle.sheet.proofs.roads.metres.Reads as metres-reads
 
 abbrev Inv-loop : tie.InvT-loop
 Inv-loop s c forward cap ids₀ n r road₀ end₀ metres₀ ids road end metres =
@@ -22,83 +17,63 @@ abbrev μ-loop : tie.MeasureT-loop
 μ-loop s c forward cap ids₀ n r road₀ end₀ metres₀ ids road end metres =
     length ids₀ - end
 
--- src/walks.rt:48:5
 loop-holds : tie.Need-loop-holds Inv-loop μ-loop
 loop-holds c = walking-start _ _ _ _ _ _ _ (rw (node-count _ _) (c .before .before .pre .2)) (c .before .before .pre .3) (c .before .before .pre .1)
 
--- src/walks.rt:49:30
 forced-requires : tie.Need-forced-requires Inv-loop μ-loop
 forced-requires c κs = (c .before .before .before .pre .0, c .loop .inv .road-in)
 
--- src/walks.rt:49:25
 enum-known-x : tie.Need-enum-known-x Inv-loop μ-loop
 enum-known-x c = search needs
 
--- src/walks.rt:50:13
 enum-told : tie.Need-enum-told Inv-loop μ-loop
 enum-told c = search needs
 
--- src/walks.rt:52:12
 met-requires : tie.Need-met-requires Inv-loop μ-loop
 met-requires c κs = omega (arith, c .before .before .before .before .before .loop .inv .few, c .before .before .before .before .before .loop .inv .room)
 
--- src/walks.rt:53:13
 same-length : tie.Need-same-length Inv-loop μ-loop
 same-length c = c .before .before .before .before .before .before .before .loop .inv .size
 
--- src/walks.rt:53:13
 returns : tie.Need-returns Inv-loop μ-loop
 returns c = dropped _ _ _ _ _ _ _ (c .before .before .before .before .before .before .before .loop .inv) (node-count _ _) (met-again _ _ _ _ _ _ _ (c .before .before .before .before .before .before .before .loop .inv) ((rw (c .before .before .before .before .x .given .1) at (c .before .before .before .before .before .before .forced .ensures)) .0) (c .before .met .ensures) (c .if1 .taken))
 
--- src/walks.rt:55:27
 metres-requires : tie.Need-metres-requires Inv-loop μ-loop
 metres-requires c κs = (c .before .before .before .before .before .before .before .before .before .before .pre .0, (rw (c .before .before .before .before .x .given .1) at (c .before .before .before .before .before .before .forced .ensures)) .1)
 
--- src/walks.rt:57:13
 same-length-2 : tie.Need-same-length-2 Inv-loop μ-loop
 same-length-2 c = c .before .before .before .before .before .before .before .before .before .loop .inv .size
 
--- src/walks.rt:57:13
 returns-2 : tie.Need-returns-2 Inv-loop μ-loop
 returns-2 c = dropped _ _ _ _ _ _ _ (c .before .before .before .before .before .before .before .before .before .loop .inv) (node-count _ _) (too-far _ _ _ _ _ _ _ (c .before .before .before .before .before .before .before .before .before .loop .inv) ((rw (c .before .before .before .before .before .before .x .given .1) at (c .before .before .before .before .before .before .before .before .forced .ensures)) .0) (c .before .before .before .met .ensures) (c .before .before .if1 .left) (c .before .metres .ensures) (c .if2 .taken))
 
--- src/walks.rt:59:9
 mul-ids : tie.Need-mul-ids Inv-loop μ-loop
 mul-ids c = omega (arith, has-room _ _ _ _ _ _ _ (c .before .before .before .before .before .before .before .before .before .loop .inv) ((rw (c .before .before .before .before .before .before .x .given .1) at (c .before .before .before .before .before .before .before .before .forced .ensures)) .0) (c .before .before .before .met .ensures) (c .before .before .if1 .left) (c .before .metres .ensures) (well-formed-formed _ _ (c .before .before .before .before .before .before .before .before .before .before .before .before .pre .0)), c .before .before .before .before .before .before .before .before .before .loop .inv .room, c .before .before .before .before .before .before .before .before .before .loop .inv .size)
 
--- src/walks.rt:59:9
 slice-write-ids : tie.Need-slice-write-ids Inv-loop μ-loop
 slice-write-ids c = omega (arith, has-room _ _ _ _ _ _ _ (c .before .before .before .before .before .before .before .before .before .loop .inv) ((rw (c .before .before .before .before .before .before .x .given .1) at (c .before .before .before .before .before .before .before .before .forced .ensures)) .0) (c .before .before .before .met .ensures) (c .before .before .if1 .left) (c .before .metres .ensures) (well-formed-formed _ _ (c .before .before .before .before .before .before .before .before .before .before .before .before .pre .0)), c .before .before .before .before .before .before .before .before .before .loop .inv .room, c .before .before .before .before .before .before .before .before .before .loop .inv .size)
 
--- src/walks.rt:61:9
 add-end : tie.Need-add-end Inv-loop μ-loop
 add-end c = omega (arith, has-room _ _ _ _ _ _ _ (c .before .before .before .before .before .before .before .before .before .loop .inv) ((rw (c .before .before .before .before .before .before .x .given .1) at (c .before .before .before .before .before .before .before .before .forced .ensures)) .0) (c .before .before .before .met .ensures) (c .before .before .if1 .left) (c .before .metres .ensures) (well-formed-formed _ _ (c .before .before .before .before .before .before .before .before .before .before .before .before .pre .0)), c .before .before .before .before .before .before .before .before .before .loop .inv .room, c .before .before .before .before .before .before .before .before .before .loop .inv .size)
 
--- src/walks.rt:48:5
 loop-less : tie.Need-loop-less Inv-loop μ-loop
 loop-less c = omega (arith, has-room _ _ _ _ _ _ _ (c .before .before .before .before .before .before .before .before .before .loop .inv) ((rw (c .before .before .before .before .before .before .x .given .1) at (c .before .before .before .before .before .before .before .before .forced .ensures)) .0) (c .before .before .before .met .ensures) (c .before .before .if1 .left) (c .before .metres .ensures) (well-formed-formed _ _ (c .before .before .before .before .before .before .before .before .before .before .before .before .pre .0)), c .before .before .before .before .before .before .before .before .before .loop .inv .room, c .before .before .before .before .before .before .before .before .before .loop .inv .size)
 
--- src/walks.rt:48:5
 loop-again : tie.Need-loop-again Inv-loop μ-loop
 loop-again c = walking-step _ _ _ _ _ _ _ (c .before .before .before .before .before .before .before .before .before .loop .inv) ((rw (c .before .before .before .before .before .before .x .given .1) at (c .before .before .before .before .before .before .before .before .forced .ensures)) .0) (c .before .before .before .met .ensures) (c .before .before .if1 .left) (c .before .metres .ensures) (well-formed-formed _ _ (c .before .before .before .before .before .before .before .before .before .before .before .before .pre .0)) ((rw (c .before .before .before .before .before .before .x .given .1) at (c .before .before .before .before .before .before .before .before .forced .ensures)) .1) (c .if2 .left)
 
--- src/walks.rt:64:9
 same-length-3 : tie.Need-same-length-3 Inv-loop μ-loop
 same-length-3 c = c .before .before .before .before .loop .inv .size
 
--- src/walks.rt:64:9
 returns-3 : tie.Need-returns-3 Inv-loop μ-loop
 returns-3 c = dropped _ _ _ _ _ _ _ (c .before .before .before .before .loop .inv) (node-count _ _) (left-none _ _ _ _ _ _ _ (c .before .before .before .before .loop .inv) (rw (c .before .enum-told .given .1) at (c .before .before .before .forced .ensures)) (c .if3 .taken))
 
--- src/walks.rt:66:17
 sub-added : tie.Need-sub-added Inv-loop μ-loop
 sub-added c = omega (arith, c .before .before .before .before .loop .inv .from)
 
--- src/walks.rt:33:1
 same-length-4 : tie.Need-same-length-4 Inv-loop μ-loop
 same-length-4 c = c .before .before .before .before .loop .inv .size
 
--- src/walks.rt:33:1
 returns-4 : tie.Need-returns-4 Inv-loop μ-loop
 returns-4 c = kept _ _ _ _ _ _ _ (c .before .before .before .before .loop .inv) (node-count _ _) (c .if3 .left) (rw (c .before .enum-told .given .1) at (c .before .before .before .forced .ensures))
 

@@ -2,25 +2,17 @@ use Rattle.model.specs.Ends.{way}
 use borrow.Author.Needs.{needs}
 use Rattle.ends.proofs.walks.forced.Statement.{statement}
 use Rattle.ends.proofs.walks.forced.Tie as tie
-use Rattle.ends.proofs.walks.forced.Reads as reads
-use Rattle.ends.proofs.walks.forced.Lts as lts
-use Rattle.road_network.proofs.graph.forced_continuation.Reads as forced-continuation-reads
-use Rattle.road_network.proofs.graph.forced_predecessor.Reads as forced-predecessor-reads
 
--- src/walks.rt:27:9
 forced-continuation-requires : tie.Need-forced-continuation-requires
 forced-continuation-requires c κs = search needs
 
--- src/walks.rt:27:9
 returns : tie.Need-returns
 unfolding way
 returns c = rw (c .before .if1 .taken) (c .forced-continuation .ensures)
 
--- src/walks.rt:29:5
 forced-predecessor-requires : tie.Need-forced-predecessor-requires
 forced-predecessor-requires c κs = search needs
 
--- src/walks.rt:22:1
 returns-2 : tie.Need-returns-2
 unfolding way
 returns-2 c = rw (c .before .if1 .left) (c .forced-predecessor .ensures)
