@@ -1,0 +1,5 @@
+pub mod Meets
+pub mod Snapping
+pub mod Turns
+pub mod Grow
+pub mod Finish

@@ -1,0 +1,33 @@
+-- What a walk leaves in the list of the path: the path in front is kept, and the added roads stand behind it.
+use Prim.Native.Nat.{ℕ, _+_, _*_, _≤_, _<_}
+use mathlib.Core.Path.{_≡_}
+use mathlib.Core.Option.{Option, none, some}
+use mathlib.Core.List.{List}
+use lib.ListN.{getD, take, drop}
+use Rattle.model.specs.Ends.{Walk}
+use Rattle.ends.specs.declared.walks.Extension.{Extension}
+use Rattle.ends.specs.declared.walks.Extension.the-variants.{Kept, Dropped}
+
+-- the first n are road numbers below e
+abbrev pub Numbers : ℕ → ℕ → List ℕ → Type 0
+Numbers e n ids = (i : ℕ) → i < n → getD ids i 0 < e
+
+-- entries p to p + k
+abbrev pub behind : ℕ → ℕ → List ℕ → List ℕ
+behind p k ids = drop p (take (p + k) ids)
+
+-- k roads added behind a path of p: at least one, at most two for each of the n nodes
+pub record Kept-as (o : Option Walk) (n e p : ℕ) (ids : List ℕ) (k : ℕ) (w : Walk) : Type 0 where
+  pub is : o ≡ some w
+  pub some-added : 0 < k
+  pub few : k ≤ 2 * n
+  pub numbers : Numbers e (p + k) ids
+
+abbrev pub Answers : Option Walk → ℕ → ℕ → ℕ → List ℕ → Extension → Type 0
+Answers o n e p ids (Kept k m) = Kept-as o n e p ids k (record { added = behind p k ids; metres = m })
+Answers o n e p ids Dropped = o ≡ none
+
+-- n nodes, e roads, a path of p roads; the list before and after
+pub record Extended (o : Option Walk) (n e p : ℕ) (ids₀ ids : List ℕ) (x : Extension) : Type 0 where
+  pub front : take p ids ≡ take p ids₀
+  pub answer : Answers o n e p ids x

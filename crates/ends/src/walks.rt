@@ -1,0 +1,68 @@
+// The walks along forced ways, from either end of a path.
+use crate::lists;
+use model::Counts;
+use road_network::graph;
+use road_network::graph::Forced;
+use sheet::roads;
+ghost use Prim.Native.Nat.{_+_, _*_, _≤_, _<_};
+ghost use lib.ListN.{length, take};
+ghost use Rattle.model.specs.Judge.{WellFormed};
+ghost use Rattle.model.specs.Sheet.{sheet-of};
+ghost use Rattle.model.specs.Ends.{way, extension};
+ghost use Rattle.road_network.specs.Graph.{Forces};
+ghost use Rattle.ends.specs.Post.{Numbers, Extended};
+
+// A walk's answer: so many roads added, of so many metres; or nothing.
+pub enum Extension {
+    Kept(usize, f64),
+    Dropped,
+}
+
+// The way on from the end of road r, or into its start.
+fn forced(s: &[u8], c: Counts, r: usize, forward: bool) -> Forced
+    requires { ⌜ WellFormed (now s) c × (r < c .e) ⌝ }
+    ensures { λ f. ⌜ Forces (way (sheet-of (now (s .entry)) c) forward r) (c .e) f ⌝ }
+{
+    if forward {
+        return graph::forced_continuation(s, c, r);
+    }
+    graph::forced_predecessor(s, c, r)
+}
+
+// The walk from road r. The path is the first n of `ids`; the roads added are written behind it.
+pub fn extend(
+    s: &[u8],
+    c: Counts,
+    forward: bool,
+    cap: f64,
+    ids: &mut [usize],
+    n: usize,
+    r: usize,
+) -> Extension
+    requires { ⌜ WellFormed (now s) c × (r < c .e) × (n + 2 * c .n ≤ length (now ids)) × Numbers (c .e) n (now ids) ⌝ }
+    ensures { λ x. ⌜ Extended (extension (sheet-of (now (s .entry)) c) forward cap (take n (now (ids .entry))) r) (c .n) (c .e) n (now (ids .entry)) (now (ids .exit)) x ⌝ }
+{
+    let mut road = r;
+    let mut end = n;
+    let mut metres = 0.0;
+    loop {
+        let Forced::Way(x) = forced(s, c, road, forward) else {
+            break;
+        };
+        if lists::met(ids, end, x) {
+            return Extension::Dropped;
+        }
+        metres = metres + roads::metres(s, c, x);
+        if cap < metres {
+            return Extension::Dropped;
+        }
+        ids[end] = x;
+        road = x;
+        end += 1;
+    }
+    if end == n {
+        return Extension::Dropped;
+    }
+    let added = end - n;
+    Extension::Kept(added, metres)
+}
