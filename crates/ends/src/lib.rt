@@ -5,6 +5,7 @@ pub mod walks;
 
 use crate::walks::Extension;
 use model::Counts;
+use search::route;
 use sheet::distances;
 use sheet::roads;
 ghost use Prim.Native.Nat.{_+_, _*_, _≤_, _<_};
@@ -66,8 +67,8 @@ pub fn at_start(s: &[u8], c: Counts, ids: &mut [usize], n: usize, cap: f64, offs
     let new = roads::source(s, c, x);
     let old = roads::source(s, c, r);
     if distances::from_first(s, c, new) < distances::from_first(s, c, old) {
-        lists::reverse(&mut ids[..all]);
-        lists::reverse(&mut ids[k..all]);
+        route::reverse(&mut ids[..all]);
+        route::reverse(&mut ids[k..all]);
         return Grown {
             count: all,
             offset: offset + m,

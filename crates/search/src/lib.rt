@@ -3,7 +3,7 @@ mod begin;
 mod offers;
 mod query;
 mod relax;
-mod route;
+pub mod route;
 mod turns;
 
 use crate::turns::Turn;

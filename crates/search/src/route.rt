@@ -18,7 +18,7 @@ ghost use Rattle.search.specs.Areas.{labels-at, Back};
 ghost use Rattle.search.specs.Answers.{ended, Arrives, answer};
 
 // Turns a list round in place.
-fn reverse(a: &mut [usize])
+pub fn reverse(a: &mut [usize])
     ensures { λ _. ⌜ now (a .exit) ≡ reverse (now (a .entry)) ⌝ }
 {
     let mut i = 0;
