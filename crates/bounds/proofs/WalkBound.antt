@@ -32,7 +32,7 @@ passed true o x h = absurd (Option·none-ne-some x h)
 passed false o x h = (refl, h)
 
 -- a road that is not met is none of those added
-unmet : (x : ℕ) (path rs : List ℕ) → meets x (path ++ rs) ≡ false → Other x rs
+pub unmet : (x : ℕ) (path rs : List ℕ) → meets x (path ++ rs) ≡ false → Other x rs
 unfolding meets
 unmet x path rs h y m e = subst T h (any-of (λ r. eqb r x) (Memᴰ·append-right path m) (eq→eqb e))
 
@@ -125,7 +125,7 @@ module _ (t : Sheet) where
       pub forced : (z : ℕ) → In z (w .added) → Forced forward z
       pub metres : Amount (w .metres)
 
-    fresh-trail : (forward : Bool) → Trail forward fresh
+    pub fresh-trail : (forward : Bool) → Trail forward fresh
     fresh-trail forward = record { distinct = tt; forced = λ z m. absurd (List·Memᴰ·not-nil m); metres = zero-amount }
 
     trail-road : (forward : Bool) (path : List ℕ) (r x : ℕ) (w : Walk) → Trail forward w → way t forward r ≡ some x → meets x (path ++ w .added) ≡ false → Trail forward (with-road t x w)

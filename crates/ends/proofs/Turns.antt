@@ -6,23 +6,21 @@ use mathlib.Core.Path.{_≡_, refl, sym, ap, subst, _∙_}
 use mathlib.Core.Logic.{inl, inr}
 use mathlib.Core.Bool.{Bool, true, false, cond}
 use mathlib.Core.Option.{none, some}
-use mathlib.Core.List.{List, [], _∷_, _++_, List·Memᴰ·not-nil, List·Memᴰ·append-cases, List·Memᴰ·eq-of-singleton, Memᴰ·append-right}
-use lib.Dec.{T, eqb}
+use mathlib.Core.List.{List, [], _∷_, _++_, List·Memᴰ·append-cases, List·Memᴰ·eq-of-singleton}
+use lib.Dec.{eqb}
 use lib.ListN.{length, set, take, drop, length-set, take-append-drop, length-append}
 use lib.Seq.{slice-empty, length-slice, take-take, take-suc-set, take-set-le, drop-append-le, length-take-le, getD-set-same, getD-set-other}
 use lib.Ieee.{Float}
-use lib.Ieee.Fits.{eq→eqb}
 use borrow.Author.Tests.{eq-eqb, ne-eqb}
 use Rattle.model.specs.Numbers.{_⊕_, _<ᶠ_, f0}
 use Rattle.model.specs.Lists.{maybe}
 use Rattle.model.specs.Sheet.{Sheet, road-at}
 use Rattle.model.specs.Ends.{Walk, fresh, with-road, meets, walked, way, walk, extension}
-use Rattle.model.proofs.Members.{any-of}
 use Rattle.bounds.specs.Formed.{Formed}
 use Rattle.bounds.proofs.AmountLaws.{zero-amount}
 use Rattle.bounds.proofs.Choices.{below-or-not}
 use Rattle.bounds.proofs.Pigeon.{Other, distinct-snoc}
-use Rattle.bounds.proofs.WalkBound.{Forced, Trail, way-forced, trail-few}
+use Rattle.bounds.proofs.WalkBound.{Forced, Trail, unmet, fresh-trail, way-forced, trail-few}
 use Rattle.ends.specs.Post.{Numbers, Extended}
 use Rattle.ends.specs.declared.walks.Extension.the-variants.{Kept, Dropped}
 
@@ -40,11 +38,6 @@ part-more : (p end : ℕ) (ids : List ℕ) (x : ℕ) → p ≤ end → end < len
 part-more p end ids x h k =
     let l : p ≤ length (take end ids) = omega (arith, length-take-le end ids (omega arith)) in
     ap (drop p) (ap (λ (n : ℕ). take n (set ids end x)) (add-one end) ∙ take-suc-set ids end x k) ∙ drop-append-le p (take end ids) (x ∷ []) l
-
--- a road that is not met is none of those added
-unmet-added : (x : ℕ) (path rs : List ℕ) → meets x (path ++ rs) ≡ false → Other x rs
-unfolding meets
-unmet-added x path rs h y m e = subst T h (any-of (λ r. eqb r x) (Memᴰ·append-right path m) (eq→eqb e))
 
 numbers-more : {e : ℕ} (ids : List ℕ) (end x : ℕ) → end < length ids → x < e → Numbers e end ids → Numbers e (end + 1) (set ids end x)
 numbers-more {e} ids end x ln xe old i hi =
@@ -79,7 +72,7 @@ module _ (t : Sheet) (b : Bool) (cap : Float) (ids₀ : List ℕ) (e p r : ℕ) 
   Added xs = (f : Formed t) → Trail t f b (record { added = xs; metres = f0 })
 
   nothing-added : Added []
-  nothing-added f = record { distinct = tt; forced = λ z m. absurd (List·Memᴰ·not-nil m); metres = zero-amount }
+  nothing-added f = fresh-trail t f b
 
   pub record Walking (ids : List ℕ) (cur end : ℕ) (m : Float) : Type 0 where
     pub from : p ≤ end
@@ -143,7 +136,7 @@ module _ (t : Sheet) (b : Bool) (cap : Float) (ids₀ : List ℕ) (e p r : ℕ) 
         -- one road more: its trail is longer, so there is room for it
         longer : Added (part p end ids ++ x ∷ [])
         longer f =
-            let o : Other x (part p end ids) = unmet-added x (take p ids) (part p end ids) (ap (meets x) (whole p end ids (a .from)) ∙ sym k ∙ l) in
+            let o : Other x (part p end ids) = unmet x (take p ids) (part p end ids) (ap (meets x) (whole p end ids (a .from)) ∙ sym k ∙ l) in
             record {
               distinct = distinct-snoc (part p end ids) x (a .trail f .distinct) o;
               forced = λ z m. elim (List·Memᴰ·append-cases (part p end ids) m) [ inl j ↦ a .trail f .forced z j | inr j ↦ subst (Forced t f b) (sym (List·Memᴰ·eq-of-singleton j)) (way-forced t f b cur x h) ];

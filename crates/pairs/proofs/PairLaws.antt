@@ -12,7 +12,8 @@ use Rattle.model.specs.declared.Candidate.{Candidate}
 use Rattle.model.specs.Lists.{fold}
 use Rattle.model.specs.Legs.{Pair, pair, pairs, leg-pairs}
 use Rattle.bounds.proofs.Choices.{below-or-not}
-use Rattle.pairs.specs.Sorted.{tried, no-candidate, pair-number}
+use Rattle.candidates.specs.Found.{no-candidate}
+use Rattle.pairs.specs.Sorted.{tried, pair-number}
 
 -- ---- lists
 

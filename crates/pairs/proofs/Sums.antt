@@ -10,7 +10,8 @@ use lib.Ieee.{Float, nan}
 use Rattle.model.specs.declared.Candidate.{Candidate}
 use Rattle.model.specs.Lists.{sort}
 use Rattle.model.specs.Legs.{Pair, pair, leg-pairs, by-sum}
-use Rattle.pairs.specs.Sorted.{tried, no-candidate, pair-number, lower-sum, sorted, Under, Summed, Sorted}
+use Rattle.candidates.specs.Found.{no-candidate}
+use Rattle.pairs.specs.Sorted.{tried, pair-number, lower-sum, sorted, Under, Summed, Sorted}
 use Rattle.bounds.proofs.Choices.{below-or-not}
 use Rattle.pairs.proofs.PairLaws.{getD-map, hundred, leg-pair-at, leg-pairs-long, all-pairs}
 use Rattle.pairs.proofs.Numbers.{under-at, sorted-under, sorted-is}

@@ -1,6 +1,6 @@
 -- The pairs of a leg by number, and the numbers in the order of their sums: insertion, equal ones keep their order.
 use mathlib.Core.Path.{_≡_}
-use mathlib.Core.Bool.{Bool, false, cond}
+use mathlib.Core.Bool.{Bool, cond}
 use mathlib.Core.List.{List, [], _∷_, map}
 use Prim.Native.Nat.{ℕ, zero, suc, _*_, _/_, _%_, _<_, min}
 use lib.ListN.{getD, take}
@@ -8,22 +8,11 @@ use lib.Ieee.{Float, nan, lt}
 use Rattle.model.specs.declared.Candidate.{Candidate}
 use Rattle.model.specs.Lists.{insert, sort}
 use Rattle.model.specs.Legs.{Pair, pair, leg-pairs, by-sum}
+use Rattle.candidates.specs.Found.{no-candidate}
 
 -- how many of n candidates a leg tries
 abbrev pub tried : ℕ → ℕ
 tried n = min 10 n
-
--- what stands in an array past its end
-abbrev pub no-candidate : Candidate
-no-candidate = record {
-  road = record { number = 0; id = 0; metres = nan; source = 0; target = 0; frc = 0; fow = 0; access = false };
-  distance = nan;
-  «bearing_diff» = nan;
-  «frc_diff» = 0;
-  «fow_score» = nan;
-  score = nan;
-  fraction = nan;
-}
 
 -- pair k, where n ends are tried: start k / n and end k % n
 abbrev pub pair-number : List Candidate → List Candidate → ℕ → ℕ → Pair
