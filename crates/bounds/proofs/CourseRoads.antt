@@ -1,48 +1,56 @@
--- A property of every road that a row names or a leg permits is one of every road of a matched course.
+-- A property of every road that a row names or a leg permits is one of every road that a leg finds, and of every road of a matched course.
 use Prim.Native.Nat.{ℕ}
 use mathlib.Core.Path.{_≡_}
 use mathlib.Core.Bool.{Bool, true, false}
-use mathlib.Core.List.{List, [], _∷_, _++_, map}
+use mathlib.Core.List.{List, _++_, map}
 use lib.Ieee.{Float}
 use Rattle.model.specs.declared.Road.{Road}
+use Rattle.model.specs.declared.Candidate.{Candidate}
+use Rattle.model.specs.Lists.{In}
 use Rattle.model.specs.Sheet.{Sheet}
-use Rattle.model.specs.View.{view}
+use Rattle.model.specs.View.{Leg, view}
 use Rattle.model.specs.Search.{bounded-astar}
-use Rattle.model.specs.Legs.{Coverage, Route, start-part, end-part, length-over, stays, terminal, whole, route-alone, route-over}
-use Rattle.model.specs.Decode.{Course, roads-of, extended, course-of, outcome, matched}
+use Rattle.model.specs.Legs.{Coverage, Route, start-part, end-part, length-over, stays, terminal, whole, route-alone, route-over, find-best-path}
+use Rattle.model.specs.Decode.{seek-of, Course, roads-of, extended, course-of, outcome, matched}
 use Rattle.model.proofs.Members.{Every, every-none, every-cons, every-append, every-map}
 use Rattle.bounds.specs.Formed.{Formed}
-use Rattle.bounds.proofs.Lines.{Kept}
-use Rattle.bounds.proofs.Courses.{RoadLaw, RouteLaw, append-every, course-law}
+use Rattle.bounds.proofs.Legs.{Finds}
+use Rattle.bounds.proofs.Lines.{Kept, candidates-of}
+use Rattle.bounds.proofs.Courses.{RoadLaw, RouteLaw, legs-find, append-every, course-law}
 
-module _ (t : Sheet) (wf : Formed t) (R : Road → Type 0) (law : RoadLaw t R) where
-  abbrev Covers : Coverage → Type 0
+-- R of the road covered, and of all roads of a route
+module _ (R : Road → Type 0) where
+  abbrev pub Covers : Coverage → Type 0
   Covers c = R (c .road)
 
-  abbrev RouteRoads : Route → Type 0
+  abbrev pub RouteRoads : Route → Type 0
   RouteRoads r = Every Covers (r .coverages)
 
-  terminal-roads : (b : Bool) (r : Road) (part : Float) → R r → Every Covers (terminal b r part)
+module _ (t : Sheet) (wf : Formed t) (R : Road → Type 0) (law : RoadLaw t R) where
+  terminal-roads : (b : Bool) (r : Road) (part : Float) → R r → Every (Covers R) (terminal b r part)
   unfolding terminal
-  terminal-roads true r part h = every-cons Covers h (every-none Covers)
-  terminal-roads false r part h = every-none Covers
+  terminal-roads true r part h = every-cons (Covers R) h (every-none (Covers R))
+  terminal-roads false r part h = every-none (Covers R)
 
-  routes-roads : RouteLaw t R RouteRoads
+  routes-roads : RouteLaw t R (RouteRoads R)
   unfolding route-alone route-over whole
   routes-roads = record {
-    alone = λ b p x y h. every-cons Covers (x .law) (every-none Covers);
+    alone = λ b p x y h. every-cons (Covers R) (x .law) (every-none (Covers R));
     over = λ p x y cost middle f.
         let total = length-over p cost in
         let first = terminal (stays (start-part p) total) (p .start .road) (start-part p) in
-        every-append Covers (first ++ map whole middle)
-        (every-append Covers first (terminal-roads (stays (start-part p) total) (p .start .road) (start-part p) (x .law)) (every-map Covers whole middle (f .roads)))
+        every-append (Covers R) (first ++ map whole middle)
+        (every-append (Covers R) first (terminal-roads (stays (start-part p) total) (p .start .road) (start-part p) (x .law)) (every-map (Covers R) whole middle (f .roads)))
         (terminal-roads (stays (end-part p) total) (p .end .road) (end-part p) (y .law));
   }
 
-  roads-hold : (r : Route) → RouteRoads r → Every R (roads-of r)
+  pub leg-roads : (slots : ℕ) (leg : Leg) (xs ys : List Candidate) → In leg (view t .legs) → In xs (candidates-of (view t)) → In ys (candidates-of (view t)) → Finds (RouteRoads R) (find-best-path (leg .limits) (seek-of (view t) (bounded-astar slots) leg) xs ys)
+  leg-roads slots leg xs ys l m k = legs-find t wf R law slots (RouteRoads R) routes-roads leg xs ys l m k
+
+  roads-hold : (r : Route) → RouteRoads R r → Every R (roads-of r)
   roads-hold r h = every-map R (λ (c : Coverage). c .road) (r .coverages) h
 
-  legs-roads : Kept RouteRoads (λ n k. Every R (k .roads))
+  legs-roads : Kept (RouteRoads R) (λ n k. Every R (k .roads))
   unfolding extended course-of
   legs-roads = record {
     begins = every-none R;
@@ -51,4 +59,4 @@ module _ (t : Sheet) (wf : Formed t) (R : Road → Type 0) (law : RoadLaw t R) w
   }
 
   pub course-roads : (slots : ℕ) (k : Course) (c : Coverage) → outcome (view t) (bounded-astar slots) ≡ matched k c → Every R (k .roads)
-  course-roads slots k c e = course-law t wf R law slots RouteRoads routes-roads (λ n k. Every R (k .roads)) legs-roads k c e .holds
+  course-roads slots k c e = course-law t wf R law slots (RouteRoads R) routes-roads (λ n k. Every R (k .roads)) legs-roads k c e .holds

@@ -1,6 +1,6 @@
 -- The courses of a well-formed sheet: what its candidates and its searches give, and the laws of legs and lines put together over them.
 use Prim.Native.Nat.{ℕ, zero, suc, _-_, _≤_, _<_, zero-le}
-use mathlib.Core.Path.{_≡_, refl, sym, ap, _∙_, subst}
+use mathlib.Core.Path.{_≡_, refl, ap, _∙_, subst}
 use mathlib.Core.Logic.{inl, inr}
 use mathlib.Core.Bool.{cond}
 use mathlib.Core.Option.{Option, none, some}
@@ -15,7 +15,7 @@ use Rattle.model.specs.declared.Candidate.{Candidate}
 use Rattle.model.specs.declared.Limits.{Limits}
 use Rattle.model.specs.Lists.{In, last, maybe}
 use Rattle.model.specs.Sheet.{Stop, Sheet, road-at, leaving-roads}
-use Rattle.model.specs.View.{Leg, Spot, allows, spot-of, place-of, leg-of, leg-stops, limits-of, view}
+use Rattle.model.specs.View.{Leg, allows, spot-of, place-of, leg-of, leg-stops, limits-of, view}
 use Rattle.model.specs.Candidates.{fraction, candidate-of, find-candidates}
 use Rattle.model.specs.Search.{Query, Found, found, none-found, full, run, search-within, bounded-astar}
 use Rattle.model.specs.Legs.{Coverage, Route, Pair, fits-alone, route-alone, length-over, route-over, find-best-path}
@@ -134,7 +134,8 @@ module _ (t : Sheet) (wf : Formed t) (R : Road → Type 0) (law : RoadLaw t R) w
   -- ---- courses
 
   module _ (slots : ℕ) (P : Route → Type 0) (routes : RouteLaw t R P) where
-    legs-find : (leg : Leg) (xs ys : List Candidate) → In leg (view t .legs) → In xs (candidates-of (view t)) → In ys (candidates-of (view t)) → Finds P (find-best-path (leg .limits) (seek-of (view t) (bounded-astar slots) leg) xs ys)
+    -- a law of what each leg finds, from one of routes
+    pub legs-find : (leg : Leg) (xs ys : List Candidate) → In leg (view t .legs) → In xs (candidates-of (view t)) → In ys (candidates-of (view t)) → Finds P (find-best-path (leg .limits) (seek-of (view t) (bounded-astar slots) leg) xs ys)
     unfolding view
     legs-find leg xs ys l m k =
         let p = Memᴰ·of-map (leg-of t) (leg-stops t) l in

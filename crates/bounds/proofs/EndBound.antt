@@ -12,7 +12,7 @@ use lib.Ieee.{Float}
 use Rattle.model.specs.declared.Road.{Road}
 use Rattle.model.specs.Numbers.{_⊕_}
 use Rattle.model.specs.Lists.{In, head, last, maybe}
-use Rattle.model.specs.Sheet.{Sheet, road-at}
+use Rattle.model.specs.Sheet.{Sheet, road-at, no-road}
 use Rattle.model.specs.Decode.{Course}
 use Rattle.model.specs.Ends.{Walk, extension, lrp-prefers, snap-cap-m, End, at-end, at-start, ends-of, extend-ends, finalize-path}
 use Rattle.model.proofs.Members.{either}
@@ -94,8 +94,13 @@ module _ (t : Sheet) (f : Formed t) where
   start-amount cap e h = start-holds (λ b. Amount (b .offset)) cap e h (λ w k. add-amount (e .offset) (w .metres) h (k .metres))
 
   -- a road of the sheet has its place as its number
+  pub own-road : (r : Road) → In r (t .roads) → (r .number < length (t .roads)) × (road-at t (r .number) ≡ r)
+  own-road r m =
+      let k = in-place no-road m in
+      subst (λ (i : ℕ). (i < length (t .roads)) × (road-at t i ≡ r)) (sym (f .numbered (k .0) (k .1)) ∙ ap (λ (x : Road). x .number) (k .2)) (k .1, k .2)
+
   pub number-below : (r : Road) → In r (t .roads) → r .number < length (t .roads)
-  number-below r m = let k = in-place _ m in subst (λ (i : ℕ). i < length (t .roads)) (sym (f .numbered (k .0) (k .1)) ∙ ap (λ (x : Road). x .number) (k .2)) (k .1)
+  number-below r m = own-road r m .0
 
   -- ---- a whole course
 

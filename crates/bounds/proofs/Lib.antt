@@ -22,6 +22,7 @@ pub mod Lines
 pub mod Courses
 pub mod CourseRoads
 pub mod RoomProof
+pub mod SomeRoad
 pub mod ListProof
 pub mod NumberProof
 pub mod Proved

@@ -42,7 +42,7 @@ decode-law D s a l no-write write = go (judged s) refl
     go Fine e = room e (roomy (length (t .stops)) (t .nodes) a l) refl
 
 -- a path that fits is written over lists of the same length
-written-length : (t : Sheet) (path : List ℕ) (l : Lists) → length path ≤ length (l .ids) → length path ≤ length (l .lengths) → SameLength l (written t path l)
+pub written-length : (t : Sheet) (path : List ℕ) (l : Lists) → length path ≤ length (l .ids) → length path ≤ length (l .lengths) → SameLength l (written t path l)
 unfolding written
 written-length t path l h k = record {
   ids = length-pad (length (l .ids)) 0 (map (λ r. road-at t r .id) path) (le-trans (le-of-eq (length-map path (λ r. road-at t r .id))) h);

@@ -21,7 +21,7 @@ use Rattle.model.specs.Sheet.{Sheet, road-at, sheet-of}
 use Rattle.model.specs.View.{view}
 use Rattle.model.specs.Search.{bounded-astar}
 use Rattle.model.specs.Legs.{Coverage, Route, Pair, fraction-between, effective-min, effective-max, length-alone, fits-alone, start-offset, end-offset, route-alone, start-part, end-part, length-over, stays, terminal, whole, route-over}
-use Rattle.model.specs.Decode.{Segment, Course, roads-of, segment-of, same-number, append, cover, extended, course-of, Outcome, refused, matched, outcome}
+use Rattle.model.specs.Decode.{Segment, Course, roads-of, segment-of, same-number, cover, extended, course-of, Outcome, refused, matched, outcome}
 use Rattle.model.specs.Ends.{finalize-path, part-of, offset-fraction}
 use Rattle.model.specs.Call.{Lists, Match, Decoded, written, match-of, answered, roomy, untouched}
 use Rattle.model.specs.Call as call

@@ -41,7 +41,7 @@ unfolding cover
 cover-length [] c = le-refl 1
 cover-length (x ∷ xs) c = let h = cover-length xs c in either (λ (ys : List Coverage). length ys ≤ suc (length (x ∷ xs))) (same-number (x .road) (c .road)) (omega arith) (omega arith)
 
-covers-length : (xs cs : List Coverage) → length (fold cover xs cs) ≤ length xs + length cs
+pub covers-length : (xs cs : List Coverage) → length (fold cover xs cs) ≤ length xs + length cs
 unfolding fold
 covers-length xs [] = omega arith
 covers-length xs (c ∷ cs) = let h = covers-length (cover xs c) cs in let k = cover-length xs c in omega arith

@@ -1,5 +1,5 @@
 -- The theorems of this crate, each proved in proofs/ for every input.
-use Prim.Native.Nat.{ℕ, suc, _+_, _-_, _*_, _≤_, _<_}
+use Prim.Native.Nat.{ℕ, suc, _-_, _*_, _≤_, _<_}
 use mathlib.Core.Path.{_≡_}
 use mathlib.Core.Logic.{_≢_}
 use mathlib.Core.Bool.{Bool}
@@ -11,7 +11,7 @@ use Rattle.model.specs.declared.Road.{Road}
 use Rattle.model.specs.Lists.{In}
 use Rattle.model.specs.Layout.{counts-of}
 use Rattle.model.specs.Sheet.{Sheet, sheet-of}
-use Rattle.model.specs.Search.{Query, Found, found, search-within, bounded-astar}
+use Rattle.model.specs.Search.{Query, found, search-within, bounded-astar}
 use Rattle.model.specs.Judge.{judged}
 use Rattle.model.specs.View.{view}
 use Rattle.model.specs.Legs.{Coverage}

@@ -1,7 +1,7 @@
 -- Demand 3 of parsed sheets. A road that a leg permits or a row names is not closed, so alike sheets have equal views and equal outcomes; and the roads of a course are the same on both.
 use Prim.Native.Nat.{ℕ, _+_, _≤_, _<_, min}
 use mathlib.Core.Path.{_≡_, refl, sym, ap, ap₂, _∙_, subst}
-use mathlib.Core.Bool.{Bool, true, false, not, _&&_, _||_, cond}
+use mathlib.Core.Bool.{Bool, true, false, not, _||_, cond}
 use mathlib.Core.Option.{Option, none, some}
 use mathlib.Core.List.{List, map}
 use native.Mathlib.Omega.{arith}
@@ -16,7 +16,7 @@ use Rattle.model.specs.declared.Road.{Road}
 use Rattle.model.specs.Numbers.{f0}
 use Rattle.model.specs.Lists.{In, keep, any, all, front, head, last, pad, maybe}
 use Rattle.model.specs.Sheet.{Stop, Sheet, road-at, list-at, leaving-roads}
-use Rattle.model.specs.View.{raised, limits-of, is-slip, allows, Spot, Place, Leg, View, spot-of, place-of, leg-of, leg-stops, distances-to, view}
+use Rattle.model.specs.View.{raised, limits-of, is-slip, allows, View, spot-of, place-of, leg-of, leg-stops, distances-to, view}
 use Rattle.model.specs.Search.{Searcher, bounded-astar}
 use Rattle.model.specs.Legs.{Coverage}
 use Rattle.model.specs.Decode.{Course, Outcome, outcome}

@@ -4,7 +4,6 @@ use mathlib.Core.Path.{_≡_}
 use mathlib.Core.Bool.{Bool, true, false, not, _&&_}
 use mathlib.Core.List.{List, [], _∷_}
 use lib.Dec.{eqb, ltb}
-use lib.ListN.{length}
 use lib.Ieee.{Float, eq}
 use Rattle.model.specs.declared.Judged.the-variants.{Fine}
 use Rattle.model.specs.Numbers.{f0}

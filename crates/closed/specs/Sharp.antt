@@ -1,13 +1,13 @@
 -- Each condition of demand 3 is needed: sheets that meet all others and are answered differently. proofs/SharpProof.antt has the proofs, by computing.
-use Prim.Native.Nat.{ℕ, _+_}
+use Prim.Native.Nat.{ℕ}
 use mathlib.Core.Path.{_≡_}
-use mathlib.Core.Bool.{Bool, true, false}
-use mathlib.Core.List.{List, [], _∷_, _++_}
+use mathlib.Core.Bool.{true, false}
+use mathlib.Core.List.{List, [], _∷_}
 use Rattle.model.specs.declared.Judged.the-variants.{Fine}
 use Rattle.model.specs.Numbers.{nat}
 use Rattle.model.specs.Judge.{judged}
-use Rattle.model.specs.Call.{Areas, Lists, Decoded, Answer, refused, matched, decode}
-use Rattle.model.specs.Build.{Parts, settings-with, point, road, row, goal, sheet-bytes}
+use Rattle.model.specs.Call.{Decoded, Answer, refused, matched, decode}
+use Rattle.model.specs.Build.{settings-with, point, road, row, goal, sheet-bytes}
 use Rattle.model.specs.Marked.{areas, lists}
 use Rattle.closed.specs.Closed.{is-closed, parsed, Alike, Core, refusal, match, core}
 

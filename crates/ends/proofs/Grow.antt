@@ -15,7 +15,8 @@ use Rattle.model.specs.Sheet.{Sheet, road-at}
 use Rattle.model.specs.Ends.{extension, lrp-prefers, End, at-end, at-start}
 use Rattle.model.proofs.Members.{in-getD}
 use Rattle.bounds.proofs.EndBound.{in-reverse, in-place}
-use Rattle.ends.specs.Post.{Numbers, behind, Kept-as, Extended}
+use Rattle.search.specs.Answers.{Numbers}
+use Rattle.ends.specs.Post.{behind, Kept-as, Extended}
 use Rattle.ends.specs.Whole.{Grows}
 use Rattle.ends.specs.declared.walks.Extension.{Extension}
 use Rattle.ends.specs.declared.walks.Extension.the-variants.{Kept, Dropped}

@@ -21,7 +21,8 @@ use Rattle.bounds.proofs.AmountLaws.{zero-amount}
 use Rattle.bounds.proofs.Choices.{below-or-not}
 use Rattle.bounds.proofs.Pigeon.{Other, distinct-snoc}
 use Rattle.bounds.proofs.WalkBound.{Forced, Trail, unmet, fresh-trail, way-forced, trail-few}
-use Rattle.ends.specs.Post.{Numbers, Extended}
+use Rattle.search.specs.Answers.{Numbers}
+use Rattle.ends.specs.Post.{Extended}
 use Rattle.ends.specs.declared.walks.Extension.the-variants.{Kept, Dropped}
 
 -- ---- the list: the path, then what is added

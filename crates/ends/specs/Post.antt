@@ -3,14 +3,11 @@ use Prim.Native.Nat.{ℕ, _+_, _*_, _≤_, _<_}
 use mathlib.Core.Path.{_≡_}
 use mathlib.Core.Option.{Option, none, some}
 use mathlib.Core.List.{List}
-use lib.ListN.{getD, take, drop}
+use lib.ListN.{take, drop}
 use Rattle.model.specs.Ends.{Walk}
+use Rattle.search.specs.Answers.{Numbers}
 use Rattle.ends.specs.declared.walks.Extension.{Extension}
 use Rattle.ends.specs.declared.walks.Extension.the-variants.{Kept, Dropped}
-
--- the first n are road numbers below e
-abbrev pub Numbers : ℕ → ℕ → List ℕ → Type 0
-Numbers e n ids = (i : ℕ) → i < n → getD ids i 0 < e
 
 -- entries p to p + k
 abbrev pub behind : ℕ → ℕ → List ℕ → List ℕ

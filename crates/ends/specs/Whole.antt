@@ -6,7 +6,7 @@ use lib.ListN.{length, take}
 use Rattle.model.specs.Lists.{head, last}
 use Rattle.model.specs.Sheet.{Sheet}
 use Rattle.model.specs.Ends.{End, Ends, offset-fraction}
-use Rattle.ends.specs.Post.{Numbers}
+use Rattle.search.specs.Answers.{Numbers}
 use Rattle.ends.specs.declared.Grown.{Grown}
 use Rattle.ends.specs.declared.Final.{Final}
 

@@ -4,7 +4,6 @@ use rules::floats;
 use rules::limits;
 ghost use mathlib.Core.Path.{_≡_};
 ghost use lib.Ieee.{Float};
-ghost use Rattle.model.specs.Decode.{Segment};
 ghost use Rattle.model.specs.Ends.{snap-cap-m, part-of};
 
 // How many metres a walk may add at an end of a segment: 0 with snapping off.

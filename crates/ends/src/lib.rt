@@ -13,7 +13,7 @@ ghost use lib.ListN.{length, take};
 ghost use Rattle.model.specs.Judge.{WellFormed};
 ghost use Rattle.model.specs.Sheet.{sheet-of};
 ghost use Rattle.model.specs.Ends.{at-end, at-start, extend-ends};
-ghost use Rattle.ends.specs.Post.{Numbers};
+ghost use Rattle.search.specs.Answers.{Numbers};
 ghost use Rattle.ends.specs.Whole.{Grows, Finished};
 
 // A path after the walk at an end: how many roads it has, and the offset at that end.

@@ -10,7 +10,8 @@ ghost use Rattle.model.specs.Judge.{WellFormed};
 ghost use Rattle.model.specs.Sheet.{sheet-of};
 ghost use Rattle.model.specs.Ends.{way, extension};
 ghost use Rattle.road_network.specs.Graph.{Forces};
-ghost use Rattle.ends.specs.Post.{Numbers, Extended};
+ghost use Rattle.search.specs.Answers.{Numbers};
+ghost use Rattle.ends.specs.Post.{Extended};
 
 // A walk's answer: so many roads added, of so many metres; or nothing.
 pub enum Extension {

@@ -1,14 +1,14 @@
--- An f64 of a sheet is no NaN.
-use Prim.Native.Nat.{ℕ, _+_, _*_, _≤_, _<_, _%_, _^_}
+-- An f64 of a sheet is no NaN, and neither is a value that equals itself.
+use Prim.Native.Nat.{ℕ, _*_, _≤_, _<_, _%_}
 use native.Mathlib.Nat.{mod-eq-of-lt, lt-of-le-of-lt}
 use native.Mathlib.Omega.{arith}
-use mathlib.Core.Path.{_≡_, refl, sym, ap, subst, _∙_}
+use mathlib.Core.Path.{_≡_, sym, subst, _∙_}
 use mathlib.Core.Bool.{Bool, true, false, not}
 use mathlib.Core.List.{List}
 use Rattle.model.specs.Bytes.{u64-at, f64-at}
-use lib.Dec.{T, lit<, ltb}
+use lib.Dec.{T, lit<}
 use borrow.Author.Tests.{le-ltb}
-use lib.Ieee.{binary64, ofBits, isNan, ones, hid, top, nanBits}
+use lib.Ieee.{Float, nan, inf, fin, binary64, eq, isNan, ones, hid, top, nanBits}
 use lib.Ieee.Bits.{nanBits-is, nanBits-above}
 
 -- a pattern up to that of 10,000,000 is no NaN's
@@ -24,3 +24,10 @@ no-nan-test n h = rw (no-nan n h) tt
 pub f64-no-nan : (s : List ℕ) (at : ℕ) → u64-at s at ≤ 0x4163_12D0_0000_0000 → isNan (f64-at s at) ≡ false
 unfolding f64-at
 f64-no-nan s at h = sym (nanBits-is binary64 (u64-at s at)) ∙ no-nan (u64-at s at) h
+
+-- a value that equals itself is no NaN
+pub itself-no-nan : (x : Float) → eq x x ≡ true → T (not (isNan x))
+unfolding eq isNan
+itself-no-nan nan e = subst (λ (b : Bool). T (not b)) e tt
+itself-no-nan (inf s) e = tt
+itself-no-nan (fin s m k) e = tt

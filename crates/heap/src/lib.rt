@@ -2,7 +2,7 @@
 // The heap is the first `len` numbers of `order`; what stands behind them has no part.
 // A hole is a place whose content does not count: the entry e goes there, or further on.
 ghost use mathlib.Core.Path.{_≡_};
-ghost use Prim.Native.Nat.{ℕ, _+_, _-_, _<_, _≤_};
+ghost use Prim.Native.Nat.{_+_, _-_, _<_, _≤_};
 ghost use lib.ListN.{length, getD, take};
 ghost use Rattle.model.specs.Numbers.{_≤ᶠ_};
 ghost use Rattle.model.specs.Heap.{sift-up, child, sink, push, pop};

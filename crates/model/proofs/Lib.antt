@@ -10,3 +10,4 @@ pub mod Listed
 pub mod RowSums
 pub mod Sections
 pub mod Parsed
+pub mod Fill

@@ -1,5 +1,5 @@
 -- The marked set, by computing.
-use mathlib.Core.Path.{_≡_, refl}
+use mathlib.Core.Path.{refl}
 use Rattle.model.specs.Marked.{MarkedSet}
 use Rattle.model.proofs.Computes.{computes}
 

@@ -1,11 +1,10 @@
 -- Sheets for the examples: the bytes of a sheet from its parts.
-use Prim.Native.Nat.{ℕ, zero, suc, _+_, _*_, _/_, _%_}
+use Prim.Native.Nat.{ℕ, zero, suc, _+_, _/_, _%_}
 use mathlib.Core.List.{List, [], _∷_, _++_, map}
-use lib.ListN.{length, replicate}
+use lib.ListN.{length}
 use lib.Ieee.{binary64, toBits}
 use Rattle.model.specs.declared.Counts.{Counts}
 use Rattle.model.specs.Numbers.{nat}
-use Rattle.model.specs.Lists.{fold}
 use Rattle.model.specs.Layout.{roads-at, lists-at, rows-at, distances-at, total}
 
 -- v in k bytes

@@ -1,7 +1,7 @@
 -- "Candidates" and the leaves that they use: road_class.rs, spatial.rs and candidates.rs after measuring; and the closest-candidate rule of "Points".
-use Prim.Native.Nat.{ℕ, suc, _+_}
+use Prim.Native.Nat.{ℕ, suc}
 use mathlib.Core.Bool.{Bool, true, false, _||_, _&&_, not, cond}
-use mathlib.Core.Option.{Option, none, some}
+use mathlib.Core.Option.{Option}
 use mathlib.Core.List.{List, [], _∷_, map}
 use lib.IntN.{pos, _-ℤ_, natAbs}
 use lib.Dec.{eqb, ltb}
@@ -11,7 +11,7 @@ use Rattle.model.specs.declared.Settings.{Settings}
 use Rattle.model.specs.declared.Point.{Point}
 use Rattle.model.specs.declared.Candidate.{Candidate}
 use Rattle.model.specs.Numbers.{_⊕_, _⊖_, _⊗_, _⊘_, _<ᶠ_, fmin, fabs, nat, f0, half, three-quarters, f1, f180, f360, infinity}
-use Rattle.model.specs.Lists.{any, all, when, collect, sort, fold}
+use Rattle.model.specs.Lists.{any, when, collect, sort, fold}
 use Rattle.model.specs.View.{Spot, Place, is-slip}
 
 -- ---- leaves

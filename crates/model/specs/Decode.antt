@@ -1,6 +1,6 @@
 -- "Points" and "Legs": decode_line and decode_point_along_line up to the ends, with refusals 7 to 11.
-use Prim.Native.Nat.{ℕ, zero, suc, _+_, _-_}
-use mathlib.Core.Bool.{Bool, true, false, cond}
+use Prim.Native.Nat.{ℕ, _+_, _-_}
+use mathlib.Core.Bool.{Bool, cond}
 use mathlib.Core.Option.{Option, none, some}
 use mathlib.Core.List.{List, [], _∷_, _++_, map}
 use lib.Dec.{eqb, ltb}
@@ -9,11 +9,11 @@ use lib.Ieee.{Float}
 use Rattle.model.specs.declared.Road.{Road}
 use Rattle.model.specs.declared.Candidate.{Candidate}
 use Rattle.model.specs.Numbers.{_⊕_, _<ᶠ_, _≤ᶠ_, f0}
-use Rattle.model.specs.Lists.{head, last, maybe, fold}
+use Rattle.model.specs.Lists.{last, maybe, fold}
 use Rattle.model.specs.Layout.{point-along-line}
 use Rattle.model.specs.View.{Leg, View}
 use Rattle.model.specs.Candidates.{find-candidates, closest-point}
-use Rattle.model.specs.Search.{Query, Searcher, Found, found, penalty}
+use Rattle.model.specs.Search.{Query, Searcher, found, penalty}
 use Rattle.model.specs.Legs.{Coverage, Route, Sought, best, no-path, heap-full, Seek, find-best-path}
 
 -- ---- the searches of a leg

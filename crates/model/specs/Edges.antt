@@ -13,11 +13,11 @@ use Rattle.model.specs.Lists.{sort}
 use Rattle.model.specs.View.{Leg, View, limits-of}
 use Rattle.model.specs.Candidates.{is-access-road, bearing-difference}
 use Rattle.model.specs.Heap.{push, pop}
-use Rattle.model.specs.Search.{Query, Searcher, Found, found, none-found, full, bounded-astar}
+use Rattle.model.specs.Search.{Query, Searcher, found, full, bounded-astar}
 use Rattle.model.specs.Legs.{Coverage, Pair, close, excellent, pair, by-sum}
 use Rattle.model.specs.Decode.{seek-of, greater}
 use Rattle.model.specs.Call.{Areas, Lists, Decoded, Match, refused, matched, decode}
-use Rattle.model.specs.Build.{Parts, settings-with, default-settings, point, road, row, goal, sheet-bytes}
+use Rattle.model.specs.Build.{settings-with, default-settings, point, road, row, goal, sheet-bytes}
 use Rattle.model.specs.Marked.{areas, lists, refusal, one-road, first-point, last-point, on-road, two-points, defaults, class-1}
 
 -- ---- the refusals

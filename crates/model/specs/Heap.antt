@@ -1,7 +1,7 @@
 -- Rust's BinaryHeap, on a list of entry numbers. `key` gives the key of an entry, and a lower key is greater.
 -- A hole is a place of the list whose content does not count: the entry e goes there, or further on.
 use Prim.Native.Nat.{ℕ, zero, suc, _+_, _-_, _*_, _/_}
-use mathlib.Core.Bool.{Bool, true, false, cond}
+use mathlib.Core.Bool.{cond}
 use mathlib.Core.List.{List, [], _∷_, _++_}
 use lib.Dec.{ltb, eqb}
 use lib.ListN.{length, getD, set, take}

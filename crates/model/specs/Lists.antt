@@ -4,7 +4,6 @@ use mathlib.Core.Bool.{Bool, true, false, _||_, _&&_, cond}
 use mathlib.Core.Option.{Option, none, some}
 use mathlib.Core.List.{List, [], _∷_, _++_, List·Memᴰ}
 use lib.ListN.{length, replicate}
-use lib.Dec.{eqb}
 
 module _ {A : Type 0} where
   -- x stands in xs

@@ -1,11 +1,9 @@
 -- "Marked set": S1 to S12, from bytes to answer and lists where a sheet is given. proofs/MarkedProof.antt has the proof, by computing.
 use Prim.Native.Nat.{ℕ}
 use mathlib.Core.Path.{_≡_}
-use mathlib.Core.Bool.{Bool, true, false}
-use mathlib.Core.Option.{Option, none, some}
+use mathlib.Core.Bool.{true, false}
 use mathlib.Core.List.{List, [], _∷_}
 use lib.ListN.{replicate}
-use lib.Ieee.{Float}
 use Rattle.model.specs.declared.Settings.{Settings}
 use Rattle.model.specs.declared.Point.{Point}
 use Rattle.model.specs.declared.Road.{Road}

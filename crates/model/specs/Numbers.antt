@@ -1,6 +1,6 @@
 -- f64 as the decode uses it: binary64 of the logic's IEEE library, one rounding for each operation. Constants stand as their bits.
 use Prim.Native.Nat.{ℕ}
-use mathlib.Core.Bool.{Bool, true, false, cond}
+use mathlib.Core.Bool.{Bool, false, cond}
 use lib.IntN.{pos}
 use lib.Ieee.{Float, nan, inf, fin, binary64, add, sub, mul, div, lt, le, ofInt, ofBits}
 

@@ -1,5 +1,5 @@
 -- A record as a table of fields, each with its offset and its rule; the first bad field is named. Every value of a sheet is judged by such a table.
-use Prim.Native.Nat.{ℕ, zero, suc, _+_, _*_}
+use Prim.Native.Nat.{ℕ, zero, suc, _+_}
 use mathlib.Core.Bool.{Bool, true, false, _&&_, _||_}
 use mathlib.Core.List.{List, [], _∷_}
 use lib.Dec.{leb, ltb, eqb}

@@ -1,6 +1,6 @@
 -- What everything before the ends reads of a sheet: rows with the roads they name, the roads that a leg permits, the distances to a goal. Sheets with equal views are decoded alike up to the ends.
 use Prim.Native.Nat.{ℕ, _+_, min}
-use mathlib.Core.Bool.{Bool, true, false, cond, _||_}
+use mathlib.Core.Bool.{Bool, cond, _||_}
 use mathlib.Core.List.{List, [], _∷_, map}
 use lib.Dec.{eqb, leb}
 use lib.ListN.{getD}

@@ -15,12 +15,12 @@ use Rattle.plans.specs.declared.State.{State}
 use Rattle.plans.specs.Turns.{asked-of, by-ask, found-of, count-of, turn-of, renewed, Comes}
 
 module _ (b : Limits) (q : Pair) (best : Best) (p : Plan) (a : Ask) (m : Middle) (r : State)
-    (planned : (roads : ℕ → Road) (old area : List ℕ) → asked-of roads area p ≡ asked b (best-score (best-of roads best old)) q)
-    (wanted : (roads : ℕ → Road) (area : List ℕ) (seek : Seek) (q : Pair) → by-ask (seek (q .start .road .target) (q .end .road .source)) a ≡ middle-of seek q (asked-of roads area p))
-    (comes : Comes r (count-of m) (λ roads old new. settled b q (best-of roads best old) (asked-of roads old p) (found-of roads m new))) where
+    (planned : (roads : ℕ → Road) (old : List ℕ) → asked-of roads p ≡ asked b (best-score (best-of roads best old)) q)
+    (wanted : (roads : ℕ → Road) (seek : Seek) (q : Pair) → by-ask (seek (q .start .road .target) (q .end .road .source)) a ≡ middle-of seek q (asked-of roads p))
+    (comes : Comes best r (count-of m) (λ roads old new. settled b q (best-of roads best old) (asked-of roads p) (found-of roads m new))) where
   pub one-pair : (roads : ℕ → Road) (seek : Seek) (old new : List ℕ) → count-of m ≤ length new
       → found-of roads m new ≡ by-ask (seek (q .start .road .target) (q .end .road .source)) a
       → turn-of (r .phase) (best-of roads (r .best) (renewed (r .taken) new old)) ≡ try-pair b seek (best-of roads best old) q
   unfolding try-pair
   one-pair roads seek old new fit found =
-      comes .means roads old new fit ∙ rw (found, wanted roads old seek q, planned roads old old)
+      comes .means roads old new fit ∙ rw (found, wanted roads seek q, planned roads old)

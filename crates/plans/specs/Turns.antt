@@ -1,13 +1,15 @@
 -- What the code's plans, answers and states stand for. The roads of a search stand in a lent area, by their numbers.
 use Prim.Native.Nat.{ℕ, _≤_}
 use mathlib.Core.Path.{_≡_}
+use mathlib.Core.Logic.{_⊎_}
 use mathlib.Core.Option.{Option}
-use mathlib.Core.List.{List, _++_, map}
+use mathlib.Core.List.{List, [], _++_, map}
 use lib.ListN.{length, take, drop}
 use lib.Ieee.{Float}
 use Rattle.model.specs.declared.Road.{Road}
 use Rattle.model.specs.Search.{Found, found, none-found, full}
 use Rattle.model.specs.Legs.{Scored, Asked, enough, nothing, alone, across, Turn, ends, goes-on, sought, heap-full}
+use Rattle.rules.specs.declared.Best.{Best}
 use Rattle.rules.specs.Code.{best-of}
 use Rattle.plans.specs.declared.Plan.{Plan}
 use Rattle.plans.specs.declared.Plan.the-variants as P
@@ -19,11 +21,12 @@ use Rattle.plans.specs.declared.Phase.{Phase}
 use Rattle.plans.specs.declared.Phase.the-variants as H
 use Rattle.plans.specs.declared.State.{State}
 
-unfoldable pub asked-of : (ℕ → Road) → List ℕ → Plan → Asked
-asked-of roads area P.Enough = enough
-asked-of roads area P.Nothing = nothing
-asked-of roads area (P.Alone b) = alone (best-of roads b area)
-asked-of roads area (P.Across bound) = across bound
+-- a route on one road has no middle
+unfoldable pub asked-of : (ℕ → Road) → Plan → Asked
+asked-of roads P.Enough = enough
+asked-of roads P.Nothing = nothing
+asked-of roads (P.Alone b) = alone (best-of roads b [])
+asked-of roads (P.Across bound) = across bound
 
 -- what a search within a bound finds, where one is asked for
 unfoldable pub by-ask : (Float → Found) → Ask → Found
@@ -50,7 +53,8 @@ turn-of H.Full b = ends heap-full
 abbrev pub renewed : ℕ → List ℕ → List ℕ → List ℕ
 renewed n new old = take n new ++ drop n old
 
--- r comes to the turn w: with the roads that it takes from the search's area `new`, where n were found, to the old area of the best so far.
-pub record Comes (r : State) (n : ℕ) (w : (ℕ → Road) → List ℕ → List ℕ → Turn) : Type 0 where
+-- From `best`, r comes to the turn w: with the roads that it takes from the search's area `new`, where n were found, to the old area of the best so far. The best stays, or its middle is what was taken.
+pub record Comes (best : Best) (r : State) (n : ℕ) (w : (ℕ → Road) → List ℕ → List ℕ → Turn) : Type 0 where
   pub few : r .taken ≤ n
+  pub middle : ((r .best ≡ best) × (r .taken ≡ 0)) ⊎ (r .best .route .count ≡ r .taken)
   pub means : (roads : ℕ → Road) (old new : List ℕ) → n ≤ length new → turn-of (r .phase) (best-of roads (r .best) (renewed (r .taken) new old)) ≡ w roads old new

@@ -25,7 +25,7 @@ use rules::routes;
 
 // What a pair asks for, with the best so far.
 pub fn plan(b: Limits, best: Best, start: Candidate, end: Candidate) -> Plan
-    ensures { λ r. ⌜ ((roads : ℕ → Road) (old area : List ℕ) → asked-of roads area r ≡ asked b (best-score (best-of roads best old)) (pair start end)) ⌝ }
+    ensures { λ r. ⌜ ((roads : ℕ → Road) (old : List ℕ) → asked-of roads r ≡ asked b (best-score (best-of roads best old)) (pair start end)) ⌝ }
 {
     if routes::best_score(best) <= start.score + end.score {
         return Plan::Enough;
@@ -49,7 +49,7 @@ pub fn plan(b: Limits, best: Best, start: Candidate, end: Candidate) -> Plan
 
 // The search that a plan asks for.
 pub fn ask(p: Plan) -> Ask
-    ensures { λ r. ⌜ ((roads : ℕ → Road) (area : List ℕ) (seek : Seek) (q : Pair) → by-ask (seek (q .start .road .target) (q .end .road .source)) r ≡ middle-of seek q (asked-of roads area p)) ⌝ }
+    ensures { λ r. ⌜ ((roads : ℕ → Road) (seek : Seek) (q : Pair) → by-ask (seek (q .start .road .target) (q .end .road .source)) r ≡ middle-of seek q (asked-of roads p)) ⌝ }
 {
     match p {
         Plan::Enough => Ask::No,
@@ -68,7 +68,7 @@ fn if_kept(kept: bool, offset: f64) -> f64
 
 // The route over a way of n roads with this cost, if its length fits.
 fn route_over(b: Limits, start: Candidate, end: Candidate, cost: f64, n: usize) -> Best
-    ensures { λ r. ⌜ ((roads : ℕ → Road) (area : List ℕ) → best-of roads r area ≡ over b (pair start end) cost (map roads (take n area))) ⌝ }
+    ensures { λ r. ⌜ (r .route .count ≡ n) × ((roads : ℕ → Road) (area : List ℕ) → best-of roads r area ≡ over b (pair start end) cost (map roads (take n area))) ⌝ }
 {
     let first = start.road;
     let last = end.road;
@@ -103,15 +103,15 @@ fn route_over(b: Limits, start: Candidate, end: Candidate, cost: f64, n: usize) 
     }
 }
 
-// The better of the best so far and a route over n roads of the search's area.
-fn take_better(best: Best, next: Best, n: usize) -> State
-    ensures { λ r. ⌜ Comes r n (λ roads old new. goes-on (improve (best-of roads best old) (best-of roads next (renewed n new old)))) ⌝ }
+// The better of the best so far and a route whose middle is in the search's area.
+fn take_better(best: Best, next: Best) -> State
+    ensures { λ r. ⌜ Comes best r (next .route .count) (λ roads old new. goes-on (improve (best-of roads best old) (best-of roads next (renewed (next .route .count) new old)))) ⌝ }
 {
     if routes::improves(best, next) {
         return State {
             phase: Phase::On,
             best: next,
-            taken: n,
+            taken: next.route.count,
         };
     }
     State {
@@ -123,12 +123,12 @@ fn take_better(best: Best, next: Best, n: usize) -> State
 
 // What a search leaves of the best so far, by what it found between the two roads.
 fn reach(b: Limits, start: Candidate, end: Candidate, best: Best, m: Middle) -> State
-    ensures { λ r. ⌜ Comes r (count-of m) (λ roads old new. reached b (pair start end) (best-of roads best old) (found-of roads m new)) ⌝ }
+    ensures { λ r. ⌜ Comes best r (count-of m) (λ roads old new. reached b (pair start end) (best-of roads best old) (found-of roads m new)) ⌝ }
 {
     match m {
         Middle::Found(cost, n) => {
             let next = route_over(b, start, end, cost, n);
-            take_better(best, next, n)
+            take_better(best, next)
         }
         Middle::Nothing => State {
             phase: Phase::On,
@@ -145,7 +145,7 @@ fn reach(b: Limits, start: Candidate, end: Candidate, best: Best, m: Middle) -> 
 
 // What a pair leaves of the best so far, by its plan and by what lies between its roads.
 pub fn settle(b: Limits, start: Candidate, end: Candidate, best: Best, p: Plan, m: Middle) -> State
-    ensures { λ r. ⌜ Comes r (count-of m) (λ roads old new. settled b (pair start end) (best-of roads best old) (asked-of roads old p) (found-of roads m new)) ⌝ }
+    ensures { λ r. ⌜ Comes best r (count-of m) (λ roads old new. settled b (pair start end) (best-of roads best old) (asked-of roads p) (found-of roads m new)) ⌝ }
 {
     match p {
         Plan::Enough => State {
@@ -158,7 +158,10 @@ pub fn settle(b: Limits, start: Candidate, end: Candidate, best: Best, p: Plan, 
             best,
             taken: 0,
         },
-        Plan::Alone(way) => take_better(best, way, 0),
+        Plan::Alone(way) => {
+            let next = routes::without_middle(way);
+            take_better(best, next)
+        }
         Plan::Across(_) => reach(b, start, end, best, m),
     }
 }

@@ -2,7 +2,7 @@
 ghost use mathlib.Core.Path.{_≡_};
 ghost use mathlib.Core.Bool.{cond};
 ghost use mathlib.Core.Option.{none};
-ghost use mathlib.Core.List.{List};
+ghost use mathlib.Core.List.{List, []};
 ghost use Prim.Native.Nat.{ℕ};
 ghost use Rattle.model.specs.declared.Road.{Road};
 ghost use Rattle.model.specs.Legs.{pair, on-one-road, best-score, improve, first-or-better};
@@ -117,4 +117,13 @@ pub fn first_or_better(best: Best, next: Best) -> Best
     } else {
         next
     }
+}
+
+// The route on its terminal roads alone.
+pub fn without_middle(b: Best) -> Best
+    ensures { λ r. ⌜ (r .route .count ≡ 0) × ((roads : ℕ → Road) (area : List ℕ) → best-of roads r area ≡ best-of roads b []) ⌝ }
+{
+    let mut r = b;
+    r.route.count = 0;
+    r
 }

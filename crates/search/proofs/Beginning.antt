@@ -1,10 +1,9 @@
 -- The areas with which a search begins: came_from filled with one mark, and the start's label and entry.
 use Prim.Native.Nat.{ℕ, zero, suc, _+_, _≤_, _<_}
-use mathlib.Core.Path.{_≡_, refl, ap, _∙_}
+use mathlib.Core.Path.{_≡_, ap, _∙_}
 use mathlib.Core.Logic.{inl, inr}
 use mathlib.Core.Option.{none, some}
-use mathlib.Core.List.{List, [], _∷_, _++_}
-use native.Mathlib.Numerals.{add-one}
+use mathlib.Core.List.{List, _++_}
 use native.Mathlib.Omega.{arith}
 use lib.ListN.{length, getD, set, take, drop, replicate, length-set, length-append, length-replicate, length-drop, getD-replicate, List·getD-append}
 use lib.Seq.{getD-set-same, getD-set-other, take-suc-set}
@@ -19,27 +18,12 @@ use Rattle.search.proofs.Tables.{table-alike}
 use Rattle.search.proofs.Labels.{marked-none, marked-some, labels-set}
 use Rattle.search.proofs.Entries.{entries-more}
 
--- ---- a loop that fills the front of a list
+-- ---- a list whose front is one value
 
 abbrev pub filled : {A : Type 0} → ℕ → A → List A → List A
 filled n x d = replicate n x ++ drop n d
 
-pub record Filling {A : Type 0} (x : A) (d s : List A) (i : ℕ) : Type 0 where
-  pub is : s ≡ filled i x d
-  pub size : length s ≡ length d
-
-fill-next : {A : Type 0} (n : ℕ) (x : A) (d : List A) → n < length d → set (filled n x d) n x ≡ filled (suc n) x d
-fill-next n x [] h = absurd (omega arith)
-fill-next zero x (y ∷ d) h = refl
-fill-next (suc n) x (y ∷ d) h = ap (λ t. x ∷ t) (fill-next n x d (omega arith))
-
 module _ {A : Type 0} (x : A) where
-  pub fill-start : (d : List A) → Filling x d d 0
-  fill-start d = record { is = refl; size = refl }
-
-  pub fill-step : {d s : List A} {i : ℕ} → Filling x d s i → i < length d → Filling x d (set s i x) (i + 1)
-  fill-step {d} {s} {i} f h = record { is = rw (add-one i, f .is) (fill-next i x d h); size = length-set s i x ∙ f .size }
-
   pub length-filled : (n : ℕ) (d : List A) → n ≤ length d → length (filled n x d) ≡ length d
   length-filled n d h = omega (arith, length-append (replicate n x) (drop n d), length-replicate n x, length-drop n d)
 

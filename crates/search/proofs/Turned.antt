@@ -8,7 +8,7 @@ use lib.ListN.{length, getD, set, length-set, length-reverse, List·getD-append}
 use lib.Seq.{ext-getD, getD-set-same, getD-set-other, getD-at}
 use Rattle.bounds.proofs.Choices.{same-or-other, below-or-not}
 
-getD-reverse : (l : List ℕ) (k : ℕ) → k < length l → getD (reverse l) k 0 ≡ getD l (length l - 1 - k) 0
+pub getD-reverse : (l : List ℕ) (k : ℕ) → k < length l → getD (reverse l) k 0 ≡ getD l (length l - 1 - k) 0
 getD-reverse [] k h = absurd (omega arith)
 getD-reverse (x ∷ l) k h =
     ap (λ (m : List ℕ). getD m k 0) (reverse-cons x l)

@@ -1,4 +1,4 @@
--- The walk back over came_from is the definition's trace, and ends where one more step changes nothing there.
+-- The walk back over came_from is the definition's trace, ends where one more step changes nothing there, and writes numbers of roads.
 use Prim.Native.Nat.{ℕ, zero, suc, _+_, _-_, _≤_, _<_}
 use mathlib.Core.Path.{_≡_, refl, sym, ap, _∙_, subst}
 use mathlib.Core.Logic.{inl, inr, _≢_}
@@ -6,19 +6,20 @@ use mathlib.Core.Option.{Option, none, some}
 use mathlib.Core.List.{List, [], _∷_, _++_, map, reverse, reverseAux-append}
 use native.Mathlib.Numerals.{add-one}
 use native.Mathlib.Omega.{arith}
-use lib.ListN.{length, getD, set, take, drop, length-set, length-reverse}
-use lib.Seq.{length-take-le, take-suc-set, take-at}
+use lib.ListN.{length, getD, set, take, drop, length-set, length-reverse, List·getD-append}
+use lib.Seq.{length-take-le, take-suc-set, take-at, getD-set-same, getD-set-other, getD-take}
 use lib.Ieee.{Float, nan}
 use Rattle.model.specs.declared.Road.{Road}
 use Rattle.model.specs.Layout.{most-roads}
 use Rattle.model.specs.Search.{Found, found, Label, label-at, real-of, came-from, trace}
-use Rattle.bounds.proofs.Choices.{below-or-not}
+use Rattle.bounds.proofs.Choices.{same-or-other, below-or-not}
 use Rattle.bounds.proofs.Traces.{trace-ends, trace-goes}
 use Rattle.search.specs.declared.turns.Progress.{Progress}
 use Rattle.search.specs.declared.turns.Progress.the-variants as P
 use Rattle.search.specs.Areas.{unreached, labels-of, Mark, Ends, Back}
-use Rattle.search.specs.Answers.{Arrives}
+use Rattle.search.specs.Answers.{Arrives, Numbers}
 use Rattle.search.proofs.Labels.{label-is, real-reached, came-road, came-start, came-unreached}
+use Rattle.search.proofs.Turned.{getD-reverse}
 
 -- i roads stand in the route, and the trace from the node whose mark is k has those in front
 pub record Walking (n e : ℕ) (roads : ℕ → Road) (came : List ℕ) (goal : ℕ) (route₀ route : List ℕ) (i k : ℕ) : Type 0 where
@@ -28,6 +29,7 @@ pub record Walking (n e : ℕ) (roads : ℕ → Road) (came : List ℕ) (goal : 
   pub to : i ≤ n - 1
   pub ends : Ends roads e came (n - 1 - i) node
   pub size : length route ≡ length route₀
+  pub numbers : Numbers e i route
   pub same : (real penalised : List Float) → trace (n - 1 - i) (labels-of roads n real penalised came) node (map roads (reverse (take i route))) ≡ trace (n - 1) (labels-of roads n real penalised came) goal []
 
 -- `few`: no mark is the number of a road. `within`: roads leave nodes.
@@ -72,6 +74,7 @@ module _ (n e : ℕ) (roads : ℕ → Road) (came : List ℕ) (few : e ≤ most-
         to = omega arith;
         ends = subst (λ (j : ℕ). Ends roads e came j goal) all ends;
         size = refl;
+        numbers = λ j l. absurd (omega arith);
         same = λ real penalised. ap (λ (j : ℕ). trace j (labels-of roads n real penalised came) goal []) (sym all);
       }
 
@@ -105,6 +108,10 @@ module _ (n e : ℕ) (roads : ℕ → Road) (came : List ℕ) (few : e ≤ most-
             to = omega (arith, walk-room);
             ends = subst (λ (u : ℕ). Ends roads e came j u) there (subst (λ (m : ℕ). Ends roads e came m node) more (w .ends) below);
             size = length-set route i k ∙ w .size;
+            numbers = λ m l. elim (same-or-other m i) [
+              | inl p ↦ omega (arith, h, ap (λ (u : ℕ). getD (set route i k) u 0) p, getD-set-same route i k 0 room)
+              | inr d ↦ omega (arith, w .numbers m (omega arith), getD-set-other route i m k 0 d)
+            ];
             same = λ real penalised.
                 let labels = labels-of roads n real penalised came in
                 let path = map roads (reverse (take i route)) in
@@ -119,8 +126,24 @@ module _ (n e : ℕ) (roads : ℕ → Road) (came : List ℕ) (few : e ≤ most-
 -- ---- the answer
 
 -- the front of the route is turned round
-pub front-turned : (route turned : List ℕ) (k : ℕ) → k ≤ length route → turned ≡ reverse (take k route) → take k (turned ++ drop k route) ≡ reverse (take k route)
-front-turned route turned k h is = rw is (take-at (reverse (take k route)) (drop k route) k (length-reverse (take k route) ∙ length-take-le k route h))
+module _ (route turned : List ℕ) (k : ℕ) (h : k ≤ length route) (is : turned ≡ reverse (take k route)) where
+  front-length : length (reverse (take k route)) ≡ k
+  front-length = length-reverse (take k route) ∙ length-take-le k route h
+
+  pub front-turned : take k (turned ++ drop k route) ≡ reverse (take k route)
+  front-turned = rw is (take-at (reverse (take k route)) (drop k route) k front-length)
+
+  pub numbers-turned : {e : ℕ} → Numbers e k route → Numbers e k (turned ++ drop k route)
+  numbers-turned below j l =
+      let front = take k route in
+      let long : length front ≡ k = length-take-le k route h in
+      let there : getD (turned ++ drop k route) j 0 ≡ getD route (k - 1 - j) 0 =
+      ap (λ (a : List ℕ). getD (a ++ drop k route) j 0) is
+      ∙ List·getD-append (reverse front) (drop k route) 0 j (omega (arith, front-length))
+      ∙ getD-reverse front j (omega (arith, long))
+      ∙ ap (λ (m : ℕ). getD front (m - 1 - j) 0) long
+      ∙ getD-take k route (k - 1 - j) 0 (omega arith) in
+      omega (arith, there, below (k - 1 - j) (omega arith))
 
 pub arrived-back : {n e : ℕ} {roads : ℕ → Road} {goal : ℕ} {p : Progress} {came : List ℕ} → p ≡ P.Found → Arrives n e roads goal p came → Back n e roads came goal
 arrived-back is h = rw is at h

@@ -1,9 +1,9 @@
 -- What the answers of the code stand for in the definition, with the areas beside them.
-use Prim.Native.Nat.{ℕ, _≤_}
+use Prim.Native.Nat.{ℕ, _≤_, _<_}
 use mathlib.Core.Path.{_≡_}
 use mathlib.Core.Option.{Option, none, some}
 use mathlib.Core.List.{List, [], map}
-use lib.ListN.{take}
+use lib.ListN.{getD, take}
 use lib.Ieee.{Float}
 use Rattle.model.specs.declared.Road.{Road}
 use Rattle.model.specs.Search.{Query, Found, found, none-found, full, Label, Entry, State, label-at, real-of, trace, Step, stop, more}
@@ -90,3 +90,13 @@ abbrev pub answer : (ℕ → Road) → Search → List ℕ → Found
 answer roads (S.Found cost n) route = found cost (map roads (take n route))
 answer roads S.Nothing route = none-found
 answer roads S.Full route = full
+
+-- the first k of the route are numbers of the e roads
+abbrev pub Numbers : ℕ → ℕ → List ℕ → Type 0
+Numbers e k route = (j : ℕ) → j < k → getD route j 0 < e
+
+-- the roads found are fewer than the n nodes, and the route holds their numbers
+abbrev pub Holds : ℕ → ℕ → Search → List ℕ → Type 0
+Holds n e (S.Found cost k) route = (k < n) × Numbers e k route
+Holds n e S.Nothing route = Unit {0}
+Holds n e S.Full route = Unit {0}

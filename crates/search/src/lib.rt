@@ -18,7 +18,7 @@ ghost use Rattle.model.specs.Search.{search-within, bounded-astar};
 ghost use Rattle.bounds.specs.Amounts.{Amount};
 ghost use Rattle.search.specs.Ask.{asked, query-at};
 ghost use Rattle.search.specs.Areas.{columns, labels-at, Sized};
-ghost use Rattle.search.specs.Answers.{Stands, ended, answer};
+ghost use Rattle.search.specs.Answers.{Stands, ended, answer, Holds};
 
 // What a search is asked: the way from `start` to `goal`, no path longer than `bound` metres, over roads within the raised class limit, with the penalties of slip and of access roads.
 pub struct Ask {
@@ -114,6 +114,7 @@ pub fn bounded_astar(
     requires { ⌜ (0 < slots) × (c .n ≤ length (now route)) × Sized (c .n) slots (columns (now real) (now penalised) (now «came_from») (now key) (now cost) (now node) (now order) 0 0) ⌝ }
     ensures found { λ r. ⌜ answer (road-at (sheet-of (now (s .entry)) c)) (r .search) (now (route .exit)) ≡ bounded-astar slots (asked (sheet-of (now (s .entry)) c) ask) (ask .start) ⌝ }
     ensures entries { λ r. ⌜ r .entries ≤ slots ⌝ }
+    ensures holds { λ r. ⌜ Holds (c .n) (c .e) (r .search) (now (route .exit)) ⌝ }
 {
     let t = search_from_start(
         s,

@@ -15,7 +15,7 @@ ghost use Rattle.model.specs.Sheet.{sheet-of, road-at};
 ghost use Rattle.model.specs.Search.{trace};
 ghost use Rattle.search.specs.Ask.{query-at};
 ghost use Rattle.search.specs.Areas.{labels-at, Back};
-ghost use Rattle.search.specs.Answers.{ended, Arrives, answer};
+ghost use Rattle.search.specs.Answers.{ended, Arrives, answer, Numbers, Holds};
 
 // Turns a list round in place.
 pub fn reverse(a: &mut [usize])
@@ -35,7 +35,7 @@ pub fn reverse(a: &mut [usize])
 // The roads from the goal back to the start, into the front of `route`: how many there are. A mark is no road's number.
 fn walk_back(s: &[u8], c: Counts, came_from: &[usize], route: &mut [usize], goal: usize) -> usize
     requires { ⌜ WellFormed (now s) c × (goal < c .n) × (c .n ≤ length (now route)) × Back (c .n) (c .e) (road-at (sheet-of (now s) c)) (now «came_from») goal ⌝ }
-    ensures { λ r. ⌜ (r ≤ c .n - 1) × ((real penalised : List Float)
+    ensures { λ r. ⌜ (r ≤ c .n - 1) × Numbers (c .e) r (now (route .exit)) × ((real penalised : List Float)
         → map (road-at (sheet-of (now (s .entry)) c)) (reverse (take r (now (route .exit))))
         ≡ trace (c .n - 1) (labels-at (now (s .entry)) c real penalised (now («came_from» .entry))) goal []) ⌝ }
 {
@@ -61,8 +61,9 @@ pub fn trace_route(
     route: &mut [usize],
 ) -> Search
     requires { ⌜ WellFormed (now s) c × (ask .goal < c .n) × (c .n ≤ length (now route)) × (c .n ≤ length (now real)) × Arrives (c .n) (c .e) (road-at (sheet-of (now s) c)) (ask .goal) progress (now «came_from») ⌝ }
-    ensures { λ r. ⌜ ((penalised : List Float) → answer (road-at (sheet-of (now (s .entry)) c)) r (now (route .exit))
+    ensures found { λ r. ⌜ ((penalised : List Float) → answer (road-at (sheet-of (now (s .entry)) c)) r (now (route .exit))
         ≡ ended (c .n - 1) (query-at (now (s .entry)) c ask) progress (labels-at (now (s .entry)) c (now (real .entry)) penalised (now («came_from» .entry)))) ⌝ }
+    ensures holds { λ r. ⌜ Holds (c .n) (c .e) r (now (route .exit)) ⌝ }
 {
     match progress {
         Progress::Looking => Search::Nothing,

@@ -52,7 +52,8 @@ returns c =
     let t = search-from-start .result in
     let l = search-from-start .last .1 .1 .1 .1 in
     let after = columns (l .0) (l .1 .0) (l .1 .1 .0) (l .1 .1 .1 .0) (l .1 .1 .1 .1 .0) (l .1 .1 .1 .1 .1 .0) (l .1 .1 .1 .1 .1 .1 .0) (t .len) (t .made) in
-    (c .before .before .trace-route .ensures (after .penalised) ∙ whole _ _ (p .0 .0) (start .args .ask) _ (p .0 .1) (p .0 .2) (p .1 .0) (p .0 .3) (p .0 .4) (t .progress) after (search-from-start .ensures .1), stands-room _ _ _ _ (t .progress) after (search-from-start .ensures .0))
+    let trace-route = c .before .before .trace-route in
+    (trace-route .ensures .0 (after .penalised) ∙ whole _ _ (p .0 .0) (start .args .ask) _ (p .0 .1) (p .0 .2) (p .1 .0) (p .0 .3) (p .0 .4) (t .progress) after (search-from-start .ensures .1), (stands-room _ _ _ _ (t .progress) after (search-from-start .ensures .0), trace-route .ensures .1))
 
 pub bounded-astar-spec : {M : Type 1} → statement M
 bounded-astar-spec =

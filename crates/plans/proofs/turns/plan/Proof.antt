@@ -1,4 +1,5 @@
 use mathlib.Core.Path.{sym, ap, _∙_}
+use mathlib.Core.List.{[]}
 use borrow.Author.Tests.{not-true, not-false}
 use borrow.Author.Needs.{needs}
 use Rattle.model.specs.Legs.{alone}
@@ -12,28 +13,28 @@ best-score-requires c κs = search needs
 
 returns : tie.Need-returns
 unfolding asked-of
-returns c = λ roads old area. asked-enough _ _ _ (rw (c .before .before .before .best-score .ensures roads old) at (c .if1 .taken))
+returns c = λ roads old. asked-enough _ _ _ (rw (c .before .before .before .best-score .ensures roads old) at (c .if1 .taken))
 
 allows-requires : tie.Need-allows-requires
 allows-requires c κs = search needs
 
 returns-2 : tie.Need-returns-2
 unfolding asked-of
-returns-2 c = λ roads old area. asked-start _ _ _ (rw (c .before .before .before .before .before .best-score .ensures roads old) at (c .before .before .if1 .left)) (sym (c .before .allows .ensures) ∙ not-true _ (c .if2 .taken))
+returns-2 c = λ roads old. asked-start _ _ _ (rw (c .before .before .before .before .before .best-score .ensures roads old) at (c .before .before .if1 .left)) (sym (c .before .allows .ensures) ∙ not-true _ (c .if2 .taken))
 
 allows-requires-2 : tie.Need-allows-requires-2
 allows-requires-2 c κs = search needs
 
 returns-3 : tie.Need-returns-3
 unfolding asked-of
-returns-3 c = λ roads old area. asked-end _ _ _ (rw (c .before .before .before .before .before .before .before .best-score .ensures roads old) at (c .before .before .before .before .if1 .left)) (sym (c .before .before .before .allows .ensures) ∙ not-false _ (c .before .before .if2 .left)) (sym (c .before .allows2 .ensures) ∙ not-true _ (c .if3 .taken))
+returns-3 c = λ roads old. asked-end _ _ _ (rw (c .before .before .before .before .before .before .before .best-score .ensures roads old) at (c .before .before .before .before .if1 .left)) (sym (c .before .before .before .allows .ensures) ∙ not-false _ (c .before .before .if2 .left)) (sym (c .before .allows2 .ensures) ∙ not-true _ (c .if3 .taken))
 
 on-one-road-requires : tie.Need-on-one-road-requires
 on-one-road-requires c κs = search needs
 
 returns-4 : tie.Need-returns-4
 unfolding asked-of
-returns-4 c = λ roads old area. ap alone (c .on-one-road .ensures roads area)
+returns-4 c = λ roads old. ap alone (c .on-one-road .ensures roads [])
     ∙ asked-alone _ _ _ (rw (c .before .before .before .before .before .before .before .before .before .before .before .best-score .ensures roads old) at (c .before .before .before .before .before .before .before .before .if1 .left)) (sym (c .before .before .before .before .before .before .before .allows .ensures) ∙ not-false _ (c .before .before .before .before .before .before .if2 .left)) (sym (c .before .before .before .before .before .allows2 .ensures) ∙ not-false _ (c .before .before .before .before .if3 .left)) (c .before .if4 .taken)
 
 middle-max-requires : tie.Need-middle-max-requires
@@ -41,11 +42,11 @@ middle-max-requires c κs = search needs
 
 returns-5 : tie.Need-returns-5
 unfolding asked-of
-returns-5 c = λ roads old area. asked-short _ _ _ (rw (c .before .before .before .before .before .before .before .before .before .before .before .before .best-score .ensures roads old) at (c .before .before .before .before .before .before .before .before .before .if1 .left)) (sym (c .before .before .before .before .before .before .before .before .allows .ensures) ∙ not-false _ (c .before .before .before .before .before .before .before .if2 .left)) (sym (c .before .before .before .before .before .before .allows2 .ensures) ∙ not-false _ (c .before .before .before .before .before .if3 .left)) (c .before .before .if4 .left) _ (c .before .middle-max .ensures) (c .if5 .taken)
+returns-5 c = λ roads old. asked-short _ _ _ (rw (c .before .before .before .before .before .before .before .before .before .before .before .before .best-score .ensures roads old) at (c .before .before .before .before .before .before .before .before .before .if1 .left)) (sym (c .before .before .before .before .before .before .before .before .allows .ensures) ∙ not-false _ (c .before .before .before .before .before .before .before .if2 .left)) (sym (c .before .before .before .before .before .before .allows2 .ensures) ∙ not-false _ (c .before .before .before .before .before .if3 .left)) (c .before .before .if4 .left) _ (c .before .middle-max .ensures) (c .if5 .taken)
 
 returns-6 : tie.Need-returns-6
 unfolding asked-of
-returns-6 c = λ roads old area. asked-across _ _ _ (rw (c .before .before .before .before .before .before .before .before .before .before .before .before .best-score .ensures roads old) at (c .before .before .before .before .before .before .before .before .before .if1 .left)) (sym (c .before .before .before .before .before .before .before .before .allows .ensures) ∙ not-false _ (c .before .before .before .before .before .before .before .if2 .left)) (sym (c .before .before .before .before .before .before .allows2 .ensures) ∙ not-false _ (c .before .before .before .before .before .if3 .left)) (c .before .before .if4 .left) _ (c .before .middle-max .ensures) (c .if5 .left)
+returns-6 c = λ roads old. asked-across _ _ _ (rw (c .before .before .before .before .before .before .before .before .before .before .before .before .best-score .ensures roads old) at (c .before .before .before .before .before .before .before .before .before .if1 .left)) (sym (c .before .before .before .before .before .before .before .before .allows .ensures) ∙ not-false _ (c .before .before .before .before .before .before .before .if2 .left)) (sym (c .before .before .before .before .before .before .allows2 .ensures) ∙ not-false _ (c .before .before .before .before .before .if3 .left)) (c .before .before .if4 .left) _ (c .before .middle-max .ensures) (c .if5 .left)
 
 pub plan-spec : {M : Type 1} → statement M
 plan-spec =

@@ -20,7 +20,7 @@ enum-told-2 : tie.Need-enum-told-2
 enum-told-2 c = search needs
 
 returns : tie.Need-returns
-returns c = let s = c .before .before .before .before .before .args in by-found (s .b) (pair (s .start) (s .end)) (s .best) (s .m) _ _ (c .before .before .before .m .given .1) (c .before .route-over .result) (c .before .route-over .ensures) (c .take-better .result) (c .take-better .ensures)
+returns c = let s = c .before .before .before .before .before .args in by-found (s .b) (pair (s .start) (s .end)) (s .best) (s .m) _ _ (c .before .before .before .m .given .1) (c .before .route-over .result) (c .before .route-over .ensures .0) (c .before .route-over .ensures .1) (c .take-better .result) (c .take-better .ensures)
 
 returns-2 : tie.Need-returns-2
 returns-2 c = let s = c .before .before .args in by-none (s .b) (pair (s .start) (s .end)) (s .best) (s .m) (c .enum-told .given .1)

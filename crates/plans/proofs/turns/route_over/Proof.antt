@@ -1,3 +1,4 @@
+use mathlib.Core.Path.{refl}
 use borrow.Author.Needs.{needs}
 use Rattle.model.specs.Legs.{over, route-over}
 use Rattle.rules.specs.Code.{best-of}
@@ -39,7 +40,7 @@ if-kept-requires-2 c κs = search needs
 
 returns : tie.Need-returns
 unfolding best-of over route-over
-returns c = λ roads area. rw (c .if-kept2 .ensures, c .before .end-offset2 .ensures, c .before .before .if-kept .ensures, c .before .before .before .start-offset2 .ensures, c .before .before .before .before .stays2 .ensures, c .before .before .before .before .before .stays .ensures, c .before .before .before .before .before .before .score-of .ensures, c .before .before .before .before .before .before .before .fits-over .ensures, c .before .before .before .before .before .before .before .before .length-over .ensures, c .before .before .before .before .before .before .before .before .before .start-offset .ensures, c .before .before .before .before .before .before .before .before .before .before .end-offset .ensures)
+returns c = (refl, λ roads area. rw (c .if-kept2 .ensures, c .before .end-offset2 .ensures, c .before .before .if-kept .ensures, c .before .before .before .start-offset2 .ensures, c .before .before .before .before .stays2 .ensures, c .before .before .before .before .before .stays .ensures, c .before .before .before .before .before .before .score-of .ensures, c .before .before .before .before .before .before .before .fits-over .ensures, c .before .before .before .before .before .before .before .before .length-over .ensures, c .before .before .before .before .before .before .before .before .before .start-offset .ensures, c .before .before .before .before .before .before .before .before .before .before .end-offset .ensures))
 
 pub route-over-spec : {M : Type 1} → statement M
 route-over-spec =

@@ -13,6 +13,9 @@ enum-told-2 c = search needs
 enum-known-p : tie.Need-enum-known-p
 enum-known-p c = search needs
 
+without-middle-requires : tie.Need-without-middle-requires
+without-middle-requires c κs = search needs
+
 take-better-requires : tie.Need-take-better-requires
 take-better-requires c κs = search needs
 
@@ -29,7 +32,7 @@ returns-2 : tie.Need-returns-2
 returns-2 c = let s = c .before .before .args in by-nothing (s .b) (pair (s .start) (s .end)) (s .best) (s .m) (s .p) (c .enum-told2 .given .1)
 
 returns-3 : tie.Need-returns-3
-returns-3 c = let s = c .before .before .before .before .args in by-alone (s .b) (pair (s .start) (s .end)) (s .best) (s .m) (s .p) _ (c .before .before .p .given .1) (c .take-better .result) (c .take-better .ensures)
+returns-3 c = let s = c .before .before .before .before .before .args in by-alone (s .b) (pair (s .start) (s .end)) (s .best) (s .m) (s .p) _ (c .before .without-middle .result) (c .before .before .before .p .given .1) (c .before .without-middle .ensures .0) (c .before .without-middle .ensures .1) (c .take-better .result) (c .take-better .ensures)
 
 returns-4 : tie.Need-returns-4
 returns-4 c = let s = c .before .before .before .args in by-across (s .b) (pair (s .start) (s .end)) (s .best) (s .m) (s .p) _ (c .before .enum-told3 .given .1) (c .reach .result) (c .reach .ensures)
@@ -41,6 +44,7 @@ settle-spec =
     enum-told
     enum-told-2
     enum-known-p
+    without-middle-requires
     take-better-requires
     enum-told-3
     reach-requires

@@ -1,11 +1,13 @@
+use Prim.Native.Nat.{_≤_}
 use mathlib.Core.Path.{sym, ap, _∙_}
 use mathlib.Core.List.{map}
 use borrow.Author.Needs.{needs}
 use native.Mathlib.Omega.{arith}
+use lib.ListN.{length}
 use lib.Seq.{length-take-le}
 use Rattle.model.specs.Sheet.{sheet-of, road-at}
 use Rattle.search.specs.Ask.{asked}
-use Rattle.search.proofs.Walks.{front-turned, arrived-back, found-there}
+use Rattle.search.proofs.Walks.{front-turned, numbers-turned, arrived-back, found-there}
 use Rattle.search.proofs.route.trace_route.Statement.{statement}
 use Rattle.search.proofs.route.trace_route.Tie as tie
 
@@ -43,10 +45,10 @@ shared-slice-read-x : tie.Need-shared-slice-read-x
 shared-slice-read-x c = search needs
 
 returns : tie.Need-returns
-returns c = λ penalised. rw (c .enum-told .given .1)
+returns c = (λ penalised. rw (c .enum-told .given .1), tt)
 
 returns-2 : tie.Need-returns-2
-returns-2 c = λ penalised. rw (c .enum-told2 .given .1)
+returns-2 c = (λ penalised. rw (c .enum-told2 .given .1), tt)
 
 same-length : tie.Need-same-length
 same-length c = search needs
@@ -60,10 +62,15 @@ returns-3 c =
     let p = start .pre in
     let a = start .args in
     let roads = road-at (sheet-of (a .s .now) (a .c)) in
-    λ penalised. rw (enum-told3 .given .1)
-    (found-there roads _ (a .real .now) penalised _ _ (p .1) (arrived-back (enum-told3 .given .1) (p .4) .reached)
-    (ap (map roads) (front-turned (walk-back .last .1 .1 .1 .0) _ (walk-back .result) (omega (arith, walk-back .ensures .0, walk-back .kept .1 .1 .1 .0, p .2)) (c .before .before .before .reverse .ensures))
-    ∙ walk-back .ensures .1 (a .real .now) penalised))
+    let route = walk-back .last .1 .1 .1 .0 in
+    let long : walk-back .result ≤ length route = omega (arith, walk-back .ensures .0, walk-back .kept .1 .1 .1 .0, p .2) in
+    let turned = c .before .before .before .reverse .ensures in (
+      λ penalised. rw (enum-told3 .given .1)
+          (found-there roads _ (a .real .now) penalised _ _ (p .1) (arrived-back (enum-told3 .given .1) (p .4) .reached)
+          (ap (map roads) (front-turned route _ (walk-back .result) long turned)
+          ∙ walk-back .ensures .2 (a .real .now) penalised)),
+      (omega (arith, walk-back .ensures .0, p .1), numbers-turned route _ (walk-back .result) long turned (walk-back .ensures .1)),
+    )
 
 pub trace-route-spec : {M : Type 1} → statement M
 trace-route-spec =

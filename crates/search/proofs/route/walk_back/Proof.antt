@@ -88,7 +88,7 @@ returns c =
     let start = c .before .before .before .before .before .before .before in
     let loop = c .before .before .loop in
     let p = start .pre in
-    (loop .inv .to, walk-end _ _ _ _ (roads-few _ _ (p .0)) (p .3 .marks) (source-within _ _ (p .0)) (loop .inv) (c .if1 .left))
+    (loop .inv .to, loop .inv .numbers, walk-end _ _ _ _ (roads-few _ _ (p .0)) (p .3 .marks) (source-within _ _ (p .0)) (loop .inv) (c .if1 .left))
 
 pub walk-back-spec : {M : Type 1} → statement M
 walk-back-spec =

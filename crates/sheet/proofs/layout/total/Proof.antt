@@ -3,10 +3,6 @@ use native.Mathlib.Omega.{arith}
 use borrow.Author.Needs.{needs}
 use Rattle.sheet.proofs.layout.total.Statement.{statement}
 use Rattle.sheet.proofs.layout.total.Tie as tie
-use Rattle.sheet.proofs.layout.total.Reads as reads
-use Rattle.sheet.proofs.layout.total.Lts as lts
-use Rattle.sheet.proofs.layout.goal_width.Reads as goal-width-reads
-use Rattle.sheet.proofs.layout.goals_at.Reads as goals-at-reads
 
 -- src/layout.rt:61:9
 goal-width-requires : tie.Need-goal-width-requires

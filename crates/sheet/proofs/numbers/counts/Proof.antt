@@ -2,9 +2,6 @@ use Rattle.model.specs.Layout.{counts-of}
 use borrow.Author.Needs.{needs}
 use Rattle.sheet.proofs.numbers.counts.Statement.{statement}
 use Rattle.sheet.proofs.numbers.counts.Tie as tie
-use Rattle.sheet.proofs.numbers.counts.Reads as reads
-use Rattle.sheet.proofs.numbers.counts.Lts as lts
-use Rattle.fields.proofs.count_at.Reads as count-at-reads
 
 -- src/numbers.rt:16:9
 count-at-requires : tie.Need-count-at-requires

@@ -1,13 +1,8 @@
-use mathlib.Core.Path.{_≡_}
 use Rattle.model.proofs.Fields.{entry-below}
 use Rattle.model.specs.Judge.{entry-of}
 use borrow.Author.Needs.{needs}
 use Rattle.sheet.proofs.numbers.entry.Statement.{statement}
 use Rattle.sheet.proofs.numbers.entry.Tie as tie
-use Rattle.sheet.proofs.numbers.entry.Reads as reads
-use Rattle.sheet.proofs.numbers.entry.Lts as lts
-use Rattle.fields.proofs.count_at.Reads as count-at-reads
-use Rattle.sheet.proofs.layout.numbers_at.Reads as numbers-at-reads
 
 -- src/numbers.rt:64:14
 numbers-at-requires : tie.Need-numbers-at-requires

@@ -6,11 +6,6 @@ use native.Mathlib.Omega.{arith}
 use borrow.Author.Needs.{needs}
 use Rattle.sheet.proofs.numbers.goal_node.Statement.{statement}
 use Rattle.sheet.proofs.numbers.goal_node.Tie as tie
-use Rattle.sheet.proofs.numbers.goal_node.Reads as reads
-use Rattle.sheet.proofs.numbers.goal_node.Lts as lts
-use Rattle.fields.proofs.count_at.Reads as count-at-reads
-use Rattle.sheet.proofs.layout.goal_width.Reads as goal-width-reads
-use Rattle.sheet.proofs.layout.goals_at.Reads as goals-at-reads
 
 -- src/numbers.rt:91:9
 goal-width-requires : tie.Need-goal-width-requires

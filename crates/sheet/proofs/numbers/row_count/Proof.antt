@@ -3,9 +3,6 @@ use Rattle.model.specs.Judge.{row-count}
 use borrow.Author.Needs.{needs}
 use Rattle.sheet.proofs.numbers.row_count.Statement.{statement}
 use Rattle.sheet.proofs.numbers.row_count.Tie as tie
-use Rattle.sheet.proofs.numbers.row_count.Reads as reads
-use Rattle.sheet.proofs.numbers.row_count.Lts as lts
-use Rattle.fields.proofs.count_at.Reads as count-at-reads
 
 -- src/numbers.rt:73:20
 mul-at : tie.Need-mul-at

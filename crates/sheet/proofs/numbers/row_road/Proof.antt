@@ -1,13 +1,8 @@
-use mathlib.Core.Path.{_≡_}
 use Rattle.model.proofs.Fields.{row-road-below}
 use Rattle.model.specs.Judge.{row-road}
 use borrow.Author.Needs.{needs}
 use Rattle.sheet.proofs.numbers.row_road.Statement.{statement}
 use Rattle.sheet.proofs.numbers.row_road.Tie as tie
-use Rattle.sheet.proofs.numbers.row_road.Reads as reads
-use Rattle.sheet.proofs.numbers.row_road.Lts as lts
-use Rattle.fields.proofs.count_at.Reads as count-at-reads
-use Rattle.sheet.proofs.layout.rows_at.Reads as rows-at-reads
 
 -- src/numbers.rt:82:14
 rows-at-requires : tie.Need-rows-at-requires

@@ -1,13 +1,8 @@
-use mathlib.Core.Path.{_≡_}
 use Rattle.model.proofs.Fields.{source-below}
 use Rattle.model.specs.Judge.{source-of}
 use borrow.Author.Needs.{needs}
 use Rattle.sheet.proofs.numbers.source.Statement.{statement}
 use Rattle.sheet.proofs.numbers.source.Tie as tie
-use Rattle.sheet.proofs.numbers.source.Reads as reads
-use Rattle.sheet.proofs.numbers.source.Lts as lts
-use Rattle.fields.proofs.count_at.Reads as count-at-reads
-use Rattle.sheet.proofs.layout.roads_at.Reads as roads-at-reads
 
 -- src/numbers.rt:37:14
 roads-at-requires : tie.Need-roads-at-requires

@@ -2,10 +2,6 @@ use Rattle.model.specs.Judge.{start-of}
 use borrow.Author.Needs.{needs}
 use Rattle.sheet.proofs.numbers.start.Statement.{statement}
 use Rattle.sheet.proofs.numbers.start.Tie as tie
-use Rattle.sheet.proofs.numbers.start.Reads as reads
-use Rattle.sheet.proofs.numbers.start.Lts as lts
-use Rattle.fields.proofs.count_at.Reads as count-at-reads
-use Rattle.sheet.proofs.layout.lists_at.Reads as lists-at-reads
 
 -- src/numbers.rt:55:14
 lists-at-requires : tie.Need-lists-at-requires
