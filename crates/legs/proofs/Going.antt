@@ -1,0 +1,99 @@
+-- The loop over the pairs: what is left decides, as the whole list does from the start.
+use Prim.Native.Nat.{ℕ, suc, _-_, _≤_, _<_}
+use mathlib.Core.Path.{_≡_, refl, sym, ap, _∙_}
+use mathlib.Core.Option.{Option, none, Option·none-ne-some}
+use mathlib.Core.List.{List, _∷_}
+use native.Mathlib.Numerals.{add-one}
+use native.Mathlib.Omega.{arith}
+use lib.ListN.{length, drop, getD, drop-of-length-le}
+use lib.Seq.{drop-cons}
+use Rattle.model.specs.declared.Road.{Road}
+use Rattle.model.specs.declared.Limits.{Limits}
+use Rattle.model.specs.Legs.{Pair, Scored, Seek, Turn, next-pair, try-pair, try-pairs}
+use Rattle.rules.specs.declared.Best.{Best}
+use Rattle.rules.specs.Code.{best-of}
+use Rattle.rules.proofs.BestLaws.{best-some}
+use Rattle.plans.specs.declared.Phase.{Phase}
+use Rattle.plans.specs.declared.Phase.the-variants as H
+use Rattle.plans.specs.declared.State.{State}
+use Rattle.plans.specs.Turns.{turn-of}
+use Rattle.search.specs.Areas.{Columns, SameSizes}
+use Rattle.legs.specs.Found.{end-of, place-after, Fits}
+
+module _ (roads : ℕ → Road) (b : Limits) (seek : Seek) (ps : List Pair) where
+  -- pair t is next, of n; the best so far fits n nodes and e roads
+  pub record Good (nodes e n : ℕ) (st : State) (area : List ℕ) (t : ℕ) : Type 0 where
+    pub in-range : t ≤ n
+    pub running : t < n → st .phase ≡ H.On
+    pub fits : Fits nodes e (st .best) area
+    pub means : next-pair (turn-of (st .phase) (best-of roads (st .best) area)) (try-pairs b seek (drop t ps)) ≡ try-pairs b seek ps none
+
+  pub good-start : (nodes e n : ℕ) (unset : Best) (area : List ℕ) → ((roads : ℕ → Road) (area : List ℕ) → best-of roads unset area ≡ none) → Good nodes e n (record { phase = H.On; best = unset; taken = 0 }) area 0
+  unfolding next-pair turn-of
+  good-start nodes e n unset area is = record {
+    in-range = omega arith;
+    running = λ h. refl;
+    fits = λ f. absurd (Option·none-ne-some _ (sym (is roads area) ∙ best-some roads unset area f));
+    means = ap (try-pairs b seek ps) (is roads area);
+  }
+
+  module _ (nodes e n : ℕ) (long : length ps ≡ n) (st : State) (area : List ℕ) (t : ℕ) (good : Good nodes e n st area t) (h : t < n) where
+    pub nearer : (ph : Phase) → n - place-after ph t n < n - t
+    unfolding place-after
+    nearer H.On = omega arith
+    nearer H.Ended = omega arith
+    nearer H.Full = omega arith
+
+    module _ (p d : Pair) (is : p ≡ getD ps t d) where
+      one-on : next-pair (try-pair b seek (best-of roads (st .best) area) p) (try-pairs b seek (drop (suc t) ps)) ≡ try-pairs b seek ps none
+      unfolding try-pairs next-pair turn-of
+      one-on =
+          let split : drop t ps ≡ p ∷ drop (suc t) ps = drop-cons ps t d (omega arith) ∙ rw is in
+          ap (λ (l : List Pair). try-pairs b seek l (best-of roads (st .best) area)) (sym split)
+          ∙ (rw (good .running h) at (good .means))
+
+      -- after the pair, by how it goes on
+      after : (ph : Phase) (x : Option Scored) → next-pair (turn-of ph x) (try-pairs b seek (drop (suc t) ps)) ≡ next-pair (turn-of ph x) (try-pairs b seek (drop (place-after ph t n) ps))
+      unfolding next-pair turn-of place-after
+      after H.On x = rw (add-one t)
+      after H.Ended x = refl
+      after H.Full x = refl
+
+      ranged : (ph : Phase) → place-after ph t n ≤ n
+      unfolding place-after
+      ranged H.On = omega arith
+      ranged H.Ended = omega arith
+      ranged H.Full = omega arith
+
+      goes : (ph : Phase) → place-after ph t n < n → ph ≡ H.On
+      unfolding place-after
+      goes H.On g = refl
+      goes H.Ended g = absurd (omega arith)
+      goes H.Full g = absurd (omega arith)
+
+      pub good-turn : (r : State) (next : List ℕ) → turn-of (r .phase) (best-of roads (r .best) next) ≡ try-pair b seek (best-of roads (st .best) area) p → Fits nodes e (r .best) next
+          → Good nodes e n r next (place-after (r .phase) t n)
+      good-turn r next turned fits = record {
+        in-range = ranged (r .phase);
+        running = goes (r .phase);
+        fits = fits;
+        means = sym (after (r .phase) (best-of roads (r .best) next)) ∙ ap (λ (w : Turn). next-pair w (try-pairs b seek (drop (suc t) ps))) turned ∙ one-on;
+      }
+
+  pub good-end : (nodes e n : ℕ) → length ps ≡ n → (st : State) (area : List ℕ) (t : ℕ) → Good nodes e n st area t → n ≤ t → end-of roads st area ≡ try-pairs b seek ps none
+  unfolding end-of try-pairs
+  good-end nodes e n long st area t good h =
+      ap (λ (l : List Pair). next-pair (turn-of (st .phase) (best-of roads (st .best) area)) (try-pairs b seek l)) (sym (drop-of-length-le ps {i = t} (omega arith))) ∙ good .means
+
+-- every lent area keeps its length
+pub record Kept (a₀ a : Columns) (route₀ route₁ best₀ best₁ : List ℕ) : Type 0 where
+  pub sizes : SameSizes a₀ a
+  pub route : length route₁ ≡ length route₀
+  pub best-route : length best₁ ≡ length best₀
+
+pub kept-start : (a : Columns) (route best-route : List ℕ) → Kept a a route route best-route best-route
+kept-start a route best-route = record {
+  sizes = record { real = refl; penalised = refl; came = refl; key = refl; cost = refl; node = refl; order = refl };
+  route = refl;
+  best-route = refl;
+}

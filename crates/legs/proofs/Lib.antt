@@ -1,0 +1,4 @@
+pub mod Middles
+pub mod Numbered
+pub mod Going
+pub mod Ending

@@ -1,0 +1,101 @@
+use Rattle.legs.proofs.Ending.{outright, by-pairs, alone-fits}
+use Rattle.legs.specs.Found.{seek-at}
+use Rattle.model.specs.Sheet.{sheet-of, road-at}
+use lib.ListN.{take}
+use mathlib.Core.Path.{_∙_}
+use native.Mathlib.Omega.{arith}
+use borrow.Author.Needs.{needs}
+use Rattle.legs.proofs.find_best_path.Statement.{statement}
+use Rattle.legs.proofs.find_best_path.Tie as tie
+
+try-same-edge-solution-requires : tie.Need-try-same-edge-solution-requires
+try-same-edge-solution-requires c κs = search needs
+
+without-middle-requires : tie.Need-without-middle-requires
+without-middle-requires c κs = search needs
+
+best-or-none-requires : tie.Need-best-or-none-requires
+best-or-none-requires c κs = search needs
+
+returns : tie.Need-returns
+returns c = let a = c .before .before .before .before .before .before .before .before .before .before .before .before .before .before .before .before .args in
+    let p = c .before .before .before .before .before .before .before .before .before .before .before .before .before .before .before .before .pre .0 in
+    let t = sheet-of (a .s .now) (a .c) in
+    let same = c .before .before .before .try-same-edge-solution in
+    let alone = c .before .without-middle in
+    let best-route = a .best-route .now in (
+      c .best-or-none .ensures .0 (road-at t) best-route ∙ outright (a .b) (seek-at t (a .slots) (a .b)) (take (a .starts .count) (a .starts .items)) (take (a .ends .count) (a .ends .items)) (same .result) (same .ensures) (road-at t) (c .before .before .if1 .taken) (alone .ensures .1 (road-at t) best-route),
+      c .best-or-none .ensures .1 (a .c .n) (a .c .e) best-route (alone-fits _ _ (alone .result) best-route (p .2) (alone .ensures .0)),
+    )
+
+sorted-pairs-requires : tie.Need-sorted-pairs-requires
+sorted-pairs-requires c κs = search needs
+
+slice-aggregate-try-pairs : tie.Need-slice-aggregate-try-pairs
+slice-aggregate-try-pairs c = search needs
+
+try-pairs-requires : tie.Need-try-pairs-requires
+try-pairs-requires c κs = let p = c .before .before .before .before .before .before .before .before .before .before .before .before .before .before .before .before .before .before .before .before .before .before .before .before .before .pre in
+    ((p .0 .0, p .0 .1, p .0 .3, p .0 .4, omega (arith, c .before .before .before .before .before .before .before .before .before .before .sorted-pairs .ok), c .before .before .before .before .before .before .before .before .before .before .sorted-pairs .ensures), p .1)
+
+ended-requires : tie.Need-ended-requires
+ended-requires c κs = search needs
+
+same-length : tie.Need-same-length
+same-length c = search needs
+
+same-length-2 : tie.Need-same-length-2
+same-length-2 c = search needs
+
+same-length-3 : tie.Need-same-length-3
+same-length-3 c = search needs
+
+same-length-4 : tie.Need-same-length-4
+same-length-4 c = search needs
+
+same-length-5 : tie.Need-same-length-5
+same-length-5 c = search needs
+
+same-length-6 : tie.Need-same-length-6
+same-length-6 c = search needs
+
+same-length-7 : tie.Need-same-length-7
+same-length-7 c = search needs
+
+same-length-8 : tie.Need-same-length-8
+same-length-8 c = search needs
+
+same-length-9 : tie.Need-same-length-9
+same-length-9 c = search needs
+
+returns-2 : tie.Need-returns-2
+returns-2 c = let a = c .before .before .before .before .before .before .before .before .before .before .before .before .before .before .before .before .before .before .before .before .before .before .before .before .before .before .before .before .before .before .before .before .before .before .before .before .before .before .before .before .before .before .before .before .before .args in
+    let t = sheet-of (a .s .now) (a .c) in
+    let same = c .before .before .before .before .before .before .before .before .before .before .before .before .before .before .before .before .before .before .before .before .before .before .before .before .before .before .before .before .before .before .before .before .try-same-edge-solution in
+    let best-route = c .before .before .before .before .before .before .before .before .before .before .before .before .before .before .before .before .before .before .before .try-pairs .last .1 .1 .1 .1 .1 .1 .1 .1 .1 .1 .1 .1 .0 in (
+      c .ended .ensures .0 (road-at t) best-route ∙ by-pairs (a .b) (seek-at t (a .slots) (a .b)) (take (a .starts .count) (a .starts .items)) (take (a .ends .count) (a .ends .items)) (same .result) (same .ensures) (road-at t) (c .before .before .before .before .before .before .before .before .before .before .before .before .before .before .before .before .before .before .before .before .before .before .before .before .before .before .before .before .before .before .before .if1 .left) (c .before .before .before .before .before .before .before .before .before .before .before .before .before .before .before .before .before .before .before .try-pairs .ensures .0),
+      c .ended .ensures .1 (a .c .n) (a .c .e) best-route (c .before .before .before .before .before .before .before .before .before .before .before .before .before .before .before .before .before .before .before .try-pairs .ensures .1),
+    )
+
+pub find-best-path-spec : {M : Type 1} → statement M
+find-best-path-spec =
+    tie.close
+    (tie.spec
+    try-same-edge-solution-requires
+    without-middle-requires
+    best-or-none-requires
+    returns
+    sorted-pairs-requires
+    slice-aggregate-try-pairs
+    try-pairs-requires
+    ended-requires
+    same-length
+    same-length-2
+    same-length-3
+    same-length-4
+    same-length-5
+    same-length-6
+    same-length-7
+    same-length-8
+    same-length-9
+    returns-2)

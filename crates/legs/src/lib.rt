@@ -1,0 +1,113 @@
+// One leg: the way between two candidates' roads, the pairs one after the other, and find_best_path.
+pub mod middle;
+pub mod tries;
+
+use candidates::find::Candidates;
+use model::Counts;
+use model::Limits;
+use model::Settings;
+use plans::Phase;
+use plans::State;
+use rules::Best;
+use rules::Route;
+use rules::routes;
+use rules::same_edge;
+ghost use mathlib.Core.Path.{_≡_};
+ghost use mathlib.Core.List.{List};
+ghost use Prim.Native.Nat.{ℕ, _≤_, _<_};
+ghost use lib.ListN.{length, take};
+ghost use Rattle.model.specs.declared.Road.{Road};
+ghost use Rattle.model.specs.Judge.{WellFormed};
+ghost use Rattle.model.specs.Sheet.{sheet-of, road-at};
+ghost use Rattle.model.specs.Legs.{sought, find-best-path};
+ghost use Rattle.rules.specs.Code.{best-of};
+ghost use Rattle.search.specs.Areas.{columns, Sized};
+ghost use Rattle.legs.specs.Found.{seek-at, end-of, sought-of, Inside, Fits, Holds};
+
+// What a leg finds: its best route, whose middle is in the front of an area; no path; or the heap used up.
+pub enum Sought {
+    Best(Route),
+    NoPath,
+    HeapFull,
+}
+
+// The best route, if there is one.
+fn best_or_none(best: Best) -> Sought
+    ensures means { λ r. ⌜ ((roads : ℕ → Road) (area : List ℕ) → sought-of roads r area ≡ sought (best-of roads best area)) ⌝ }
+    ensures holds { λ r. ⌜ ((n e : ℕ) (area : List ℕ) → Fits n e best area → Holds n e r area) ⌝ }
+{
+    if best.found {
+        let route = best.route;
+        return Sought::Best(route);
+    }
+    Sought::NoPath
+}
+
+// How a leg ends, by the state after its pairs.
+fn ended(st: State) -> Sought
+    ensures means { λ r. ⌜ ((roads : ℕ → Road) (area : List ℕ) → sought-of roads r area ≡ end-of roads st area) ⌝ }
+    ensures holds { λ r. ⌜ ((n e : ℕ) (area : List ℕ) → Fits n e (st .best) area → Holds n e r area) ⌝ }
+{
+    let phase = st.phase;
+    let best = st.best;
+    match phase {
+        Phase::On => best_or_none(best),
+        Phase::Ended => best_or_none(best),
+        Phase::Full => Sought::HeapFull,
+    }
+}
+
+// The best route of a leg from its starts to its ends. A solution on one road wins outright; else the pairs decide.
+pub fn find_best_path(
+    s: &[u8],
+    c: Counts,
+    set: Settings,
+    b: Limits,
+    starts: Candidates,
+    ends: Candidates,
+    slots: usize,
+    real: &mut [f64],
+    penalised: &mut [f64],
+    came_from: &mut [usize],
+    route: &mut [usize],
+    best_route: &mut [usize],
+    key: &mut [f64],
+    cost: &mut [f64],
+    node: &mut [usize],
+    order: &mut [usize],
+) -> Sought
+    requires { ⌜ WellFormed (now s) c × (set ≡ sheet-of (now s) c .settings) × (0 < c .n) × Inside (c .n) starts × Inside (c .n) ends ⌝ }
+    requires { ⌜ (0 < slots) × (c .n ≤ length (now route)) × (c .n ≤ length (now «best_route»)) × Sized (c .n) slots (columns (now real) (now penalised) (now «came_from») (now key) (now cost) (now node) (now order) 0 0) ⌝ }
+    ensures means { λ r. ⌜ sought-of (road-at (sheet-of (now (s .entry)) c)) r (now («best_route» .exit))
+        ≡ find-best-path b (seek-at (sheet-of (now (s .entry)) c) slots b) (take (starts .count) (starts .items)) (take (ends .count) (ends .items)) ⌝ }
+    ensures holds { λ r. ⌜ Holds (c .n) (c .e) r (now («best_route» .exit)) ⌝ }
+{
+    let xs = starts.items;
+    let ys = ends.items;
+    let same = same_edge::try_same_edge_solution(b, xs, starts.count, ys, ends.count);
+    if same.found {
+        let alone = routes::without_middle(same);
+        return best_or_none(alone);
+    }
+    let numbers = pairs::sorted_pairs(xs, starts.count, ys, ends.count);
+    let st = tries::try_pairs(
+        s,
+        c,
+        set,
+        b,
+        starts,
+        ends,
+        &numbers,
+        slots,
+        real,
+        penalised,
+        came_from,
+        route,
+        best_route,
+        key,
+        cost,
+        node,
+        order,
+    );
+    ended(st)
+}

@@ -1,0 +1,124 @@
+// What lies between two roads of a pair: known without a search, or found by one.
+use model::Counts;
+use model::Limits;
+use model::Settings;
+use plans::Ask;
+use plans::Middle;
+use search::Search;
+ghost use mathlib.Core.Path.{_≡_};
+ghost use mathlib.Core.Bool.{cond};
+ghost use mathlib.Core.List.{List, []};
+ghost use Prim.Native.Nat.{ℕ, _≤_, _<_};
+ghost use lib.Dec.{eqb};
+ghost use lib.ListN.{length};
+ghost use lib.Ieee.{Float};
+ghost use Rattle.model.specs.declared.Road.{Road};
+ghost use Rattle.model.specs.Numbers.{f0};
+ghost use Rattle.model.specs.Judge.{WellFormed};
+ghost use Rattle.model.specs.Sheet.{sheet-of, road-at};
+ghost use Rattle.model.specs.Search.{Found, found};
+ghost use Rattle.plans.specs.Turns.{by-ask, found-of, renewed};
+ghost use Rattle.search.specs.Areas.{columns, Sized};
+ghost use Rattle.search.specs.Answers.{answer};
+ghost use Rattle.search.specs.Answers as answers;
+ghost use Rattle.legs.specs.Found.{seek-at, by-way, Spans, Brief};
+
+// What is known without a search, or the bound of a search.
+pub enum Way {
+    Known(Middle),
+    Within(f64),
+}
+
+// No search where none is asked for, and none where start and goal are one node.
+fn way_between(a: Ask, start: usize, goal: usize) -> Way
+    ensures means { λ r. ⌜ ((roads : ℕ → Road) (area : List ℕ) (search : Float → Found) → by-way roads area search r ≡ by-ask (λ bound. cond (eqb start goal) (found f0 []) (search bound)) a) ⌝ }
+    ensures brief { λ r. ⌜ Brief r ⌝ }
+{
+    let Ask::Within(bound) = a else {
+        return Way::Known(Middle::Nothing);
+    };
+    if start == goal {
+        return Way::Known(Middle::Found(0.0, 0));
+    }
+    Way::Within(bound)
+}
+
+// What a search found.
+fn middle_of(x: Search) -> Middle
+    ensures means { λ m. ⌜ ((roads : ℕ → Road) (area : List ℕ) → found-of roads m area ≡ answer roads x area) ⌝ }
+    ensures spans { λ m. ⌜ ((n e : ℕ) (area : List ℕ) → answers.Holds n e x area → Spans n e m area) ⌝ }
+{
+    match x {
+        Search::Found(cost, n) => Middle::Found(cost, n),
+        Search::Nothing => Middle::Nothing,
+        Search::Full => Middle::Full,
+    }
+}
+
+// What lies between the nodes `start` and `goal`, where a pair asks for it. Its roads are in the front of `route`.
+pub fn middle(
+    s: &[u8],
+    c: Counts,
+    set: Settings,
+    b: Limits,
+    a: Ask,
+    start: usize,
+    goal: usize,
+    slots: usize,
+    real: &mut [f64],
+    penalised: &mut [f64],
+    came_from: &mut [usize],
+    route: &mut [usize],
+    key: &mut [f64],
+    cost: &mut [f64],
+    node: &mut [usize],
+    order: &mut [usize],
+) -> Middle
+    requires { ⌜ WellFormed (now s) c × (set ≡ sheet-of (now s) c .settings) × (start < c .n) × (goal < c .n) ⌝ }
+    requires { ⌜ (0 < slots) × (c .n ≤ length (now route)) × Sized (c .n) slots (columns (now real) (now penalised) (now «came_from») (now key) (now cost) (now node) (now order) 0 0) ⌝ }
+    ensures means { λ m. ⌜ found-of (road-at (sheet-of (now (s .entry)) c)) m (now (route .exit)) ≡ by-ask (seek-at (sheet-of (now (s .entry)) c) slots b start goal) a ⌝ }
+    ensures spans { λ m. ⌜ Spans (c .n) (c .e) m (now (route .exit)) ⌝ }
+{
+    let known = way_between(a, start, goal);
+    match known {
+        Way::Known(m) => m,
+        Way::Within(bound) => {
+            let ask = search::Ask {
+                start,
+                goal,
+                bound,
+                class: b.class,
+                slip: set.slip_road_cost_penalty,
+                access: set.access_road_cost_penalty,
+            };
+            let found = search::bounded_astar(
+                s,
+                c,
+                ask,
+                slots,
+                real,
+                penalised,
+                came_from,
+                route,
+                key,
+                cost,
+                node,
+                order,
+            );
+            let end = found.search;
+            middle_of(end)
+        }
+    }
+}
+
+// The first n roads of the search's area become those of the best route.
+pub fn keep_roads(best_route: &mut [usize], route: &[usize], n: usize)
+    requires { ⌜ (n ≤ length (now «best_route»)) × (n ≤ length (now route)) ⌝ }
+    ensures { λ _. ⌜ now («best_route» .exit) ≡ renewed n (now (route .entry)) (now («best_route» .entry)) ⌝ }
+{
+    let mut i = 0;
+    while i < n {
+        best_route[i] = route[i];
+        i += 1;
+    }
+}

@@ -1,0 +1,156 @@
+// The pairs of a leg, one after the other.
+use crate::middle;
+use candidates::find::Candidates;
+use model::Candidate;
+use model::Counts;
+use model::Limits;
+use model::Settings;
+use plans::Phase;
+use plans::State;
+use plans::turns;
+use rules::Best;
+use rules::routes;
+ghost use mathlib.Core.Path.{_≡_};
+ghost use mathlib.Core.Option.{none};
+ghost use Prim.Native.Nat.{_≤_, _<_};
+ghost use lib.ListN.{length, take};
+ghost use Rattle.model.specs.Lists.{sort};
+ghost use Rattle.model.specs.Judge.{WellFormed};
+ghost use Rattle.model.specs.Sheet.{sheet-of, road-at};
+ghost use Rattle.model.specs.Legs.{pair, leg-pairs, by-sum, try-pair, try-pairs};
+ghost use Rattle.rules.specs.Code.{best-of};
+ghost use Rattle.pairs.specs.Sorted.{Sorted};
+ghost use Rattle.plans.specs.Turns.{turn-of};
+ghost use Rattle.search.specs.Areas.{columns, Sized};
+ghost use Rattle.legs.specs.Found.{seek-at, end-of, place-after, Inside, Fits};
+
+// One pair: what it asks for, the search if it asks for one, and what comes of it. The best route's middle is in the front of `best_route`.
+pub fn try_pair(
+    s: &[u8],
+    c: Counts,
+    set: Settings,
+    b: Limits,
+    start: Candidate,
+    end: Candidate,
+    best: Best,
+    slots: usize,
+    real: &mut [f64],
+    penalised: &mut [f64],
+    came_from: &mut [usize],
+    route: &mut [usize],
+    best_route: &mut [usize],
+    key: &mut [f64],
+    cost: &mut [f64],
+    node: &mut [usize],
+    order: &mut [usize],
+) -> State
+    requires { ⌜ WellFormed (now s) c × (set ≡ sheet-of (now s) c .settings) × (start .road .target < c .n) × (end .road .source < c .n) × Fits (c .n) (c .e) best (now «best_route») ⌝ }
+    requires { ⌜ (0 < slots) × (c .n ≤ length (now route)) × (c .n ≤ length (now «best_route»)) × Sized (c .n) slots (columns (now real) (now penalised) (now «came_from») (now key) (now cost) (now node) (now order) 0 0) ⌝ }
+    ensures means { λ t. ⌜ turn-of (t .phase) (best-of (road-at (sheet-of (now (s .entry)) c)) (t .best) (now («best_route» .exit)))
+        ≡ try-pair b (seek-at (sheet-of (now (s .entry)) c) slots b) (best-of (road-at (sheet-of (now (s .entry)) c)) best (now («best_route» .entry))) (pair start end) ⌝ }
+    ensures fits { λ t. ⌜ Fits (c .n) (c .e) (t .best) (now («best_route» .exit)) ⌝ }
+{
+    let p = turns::plan(b, best, start, end);
+    let a = turns::ask(p);
+    let m = middle::middle(
+        s,
+        c,
+        set,
+        b,
+        a,
+        start.road.target,
+        end.road.source,
+        slots,
+        real,
+        penalised,
+        came_from,
+        route,
+        key,
+        cost,
+        node,
+        order,
+    );
+    let t = turns::settle(b, start, end, best, p, m);
+    middle::keep_roads(best_route, route, t.taken);
+    t
+}
+
+// The number of the next pair: the last one where the leg is decided.
+fn next_place(phase: Phase, t: usize, n: usize) -> usize
+    requires { ⌜ (t < n) × (n ≤ 100) ⌝ }
+    ensures { λ r. ⌜ r ≡ place-after phase t n ⌝ }
+{
+    match phase {
+        Phase::On => t + 1,
+        Phase::Ended => n,
+        Phase::Full => n,
+    }
+}
+
+// The pairs in the order of their sums, until one cannot win or the heap is used up.
+pub fn try_pairs(
+    s: &[u8],
+    c: Counts,
+    set: Settings,
+    b: Limits,
+    starts: Candidates,
+    ends: Candidates,
+    numbers: &[usize],
+    slots: usize,
+    real: &mut [f64],
+    penalised: &mut [f64],
+    came_from: &mut [usize],
+    route: &mut [usize],
+    best_route: &mut [usize],
+    key: &mut [f64],
+    cost: &mut [f64],
+    node: &mut [usize],
+    order: &mut [usize],
+) -> State
+    requires { ⌜ WellFormed (now s) c × (set ≡ sheet-of (now s) c .settings) × Inside (c .n) starts × Inside (c .n) ends × (100 ≤ length (now numbers)) × Sorted (starts .items) (ends .items) (starts .count) (ends .count) (now numbers) ⌝ }
+    requires { ⌜ (0 < slots) × (c .n ≤ length (now route)) × (c .n ≤ length (now «best_route»)) × Sized (c .n) slots (columns (now real) (now penalised) (now «came_from») (now key) (now cost) (now node) (now order) 0 0) ⌝ }
+    ensures means { λ t. ⌜ end-of (road-at (sheet-of (now (s .entry)) c)) t (now («best_route» .exit))
+        ≡ try-pairs b (seek-at (sheet-of (now (s .entry)) c) slots b) (sort by-sum (leg-pairs (take (starts .count) (starts .items)) (take (ends .count) (ends .items)))) none ⌝ }
+    ensures fits { λ t. ⌜ Fits (c .n) (c .e) (t .best) (now («best_route» .exit)) ⌝ }
+{
+    let m = pairs::tried(starts.count);
+    let n = pairs::tried(ends.count);
+    let count = m * n;
+    let unset = routes::no_best();
+    let mut st = State {
+        phase: Phase::On,
+        best: unset,
+        taken: 0,
+    };
+    let mut t = 0;
+    while t < count {
+        let k = numbers[t];
+        let i = k / n;
+        let j = k % n;
+        let first = starts.items[i];
+        let last = ends.items[j];
+        let best = st.best;
+        st = try_pair(
+            s,
+            c,
+            set,
+            b,
+            first,
+            last,
+            best,
+            slots,
+            real,
+            penalised,
+            came_from,
+            route,
+            best_route,
+            key,
+            cost,
+            node,
+            order,
+        );
+        let phase = st.phase;
+        t = next_place(phase, t, count);
+    }
+    st
+}
