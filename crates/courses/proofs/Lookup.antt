@@ -1,0 +1,167 @@
+-- Road j of a route: a first road that is kept, then the middle, then a last road that is kept. So it is for any list of three parts.
+use Prim.Native.Nat.{ℕ, zero, suc, _+_, _-_, _≤_, _<_}
+use mathlib.Core.Path.{_≡_, refl, sym, ap, _∙_}
+use mathlib.Core.Bool.{Bool, true, false}
+use mathlib.Core.List.{List, _++_, map}
+use native.Mathlib.Omega.{arith}
+use lib.ListN.{length, getD, take, length-append, length-map, List·getD-append}
+use lib.Seq.{length-take-le, getD-take, getD-append-add}
+use lib.Ieee.{Float}
+use Rattle.model.specs.declared.Counts.{Counts}
+use Rattle.model.specs.declared.Road.{Road}
+use Rattle.model.specs.Sheet.{Sheet, road-at, no-road}
+use Rattle.model.specs.Legs.{Coverage, terminal, whole}
+use Rattle.rules.specs.declared.Part.{Part}
+use Rattle.rules.specs.declared.Route.{Route}
+use Rattle.rules.specs.Code.{part-of}
+use Rattle.pairs.proofs.PairLaws.{getD-map}
+use Rattle.courses.specs.declared.Cover.{Cover}
+use Rattle.courses.specs.Left.{covers, size-of, Known, numbers, numbers-of, coverage-of}
+
+-- ---- a list of three parts, at j
+
+module _ {A : Type 0} (xs ys zs : List A) (d : A) (first j : ℕ) (is : first ≡ length xs) where
+  in-front : j < first → getD (xs ++ ys ++ zs) j d ≡ getD xs j d
+  in-front h = List·getD-append (xs ++ ys) zs d j (omega (arith, length-append xs ys)) ∙ List·getD-append xs ys d j (omega arith)
+
+  in-middle : first ≤ j → j - first < length ys → getD (xs ++ ys ++ zs) j d ≡ getD ys (j - first) d
+  in-middle h k =
+      List·getD-append (xs ++ ys) zs d j (omega (arith, length-append xs ys))
+      ∙ ap (λ (i : ℕ). getD (xs ++ ys) i d) {x = j} {y = length xs + (j - first)} (omega arith)
+      ∙ getD-append-add xs ys (j - first) d
+
+  in-back : (k : ℕ) → length ys ≡ k → first ≤ j → k ≤ j - first → getD (xs ++ ys ++ zs) j d ≡ getD zs (j - first - k) d
+  in-back k size h l =
+      ap (λ (i : ℕ). getD (xs ++ ys ++ zs) i d) {x = j} {y = length (xs ++ ys) + (j - first - k)} (omega (arith, length-append xs ys))
+      ∙ getD-append-add (xs ++ ys) zs (j - first - k) d
+
+length-three : {A : Type 0} (xs ys zs : List A) → length (xs ++ ys ++ zs) ≡ length xs + length ys + length zs
+length-three xs ys zs = omega (arith, length-append (xs ++ ys) zs, length-append xs ys)
+
+-- ---- a terminal road
+
+abbrev covered : Part → Coverage
+covered p = record { road = p .road; metres = p .metres }
+
+pub terminal-one : (b : Bool) (r : Road) (m : Float) → b ≡ true → 1 ≡ length (terminal b r m)
+unfolding terminal
+terminal-one b r m e = rw e
+
+pub terminal-none : (b : Bool) (r : Road) (m : Float) → b ≡ false → 0 ≡ length (terminal b r m)
+unfolding terminal
+terminal-none b r m e = rw e
+
+terminal-few : (b : Bool) (r : Road) (m : Float) → length (terminal b r m) ≤ 1
+unfolding terminal
+terminal-few true r m = omega arith
+terminal-few false r m = omega arith
+
+terminal-at : (b : Bool) (r : Road) (m : Float) (j : ℕ) (d : Coverage) → j < length (terminal b r m) → (b ≡ true) × (getD (terminal b r m) j d ≡ record { road = r; metres = m })
+unfolding terminal
+terminal-at true r m zero d h = (refl, refl)
+terminal-at true r m (suc j) d h = absurd (omega arith)
+terminal-at false r m j d h = absurd (omega arith)
+
+module _ (p : Part) (j : ℕ) (h : j < length (part-of p)) where
+  part-kept : p .kept ≡ true
+  part-kept = terminal-at (p .kept) (p .road) (p .metres) j (covered p) h .0
+
+  part-at : (d : Coverage) → getD (part-of p) j d ≡ covered p
+  part-at d = terminal-at (p .kept) (p .road) (p .metres) j d h .1
+
+  part-number : getD (numbers (part-of p)) j 0 ≡ p .road .number
+  part-number = getD-map (λ (x : Coverage). x .road .number) (part-of p) j (covered p) 0 h ∙ ap (λ (x : Coverage). x .road .number) (part-at (covered p))
+
+-- ---- a route with its middle in the front of an area
+
+pub size-few : (r : Route) → size-of r ≤ r .count + 2
+unfolding size-of
+size-few r = omega (arith, terminal-few (r .head .kept) (r .head .road) (r .head .metres), terminal-few (r .tail .kept) (r .tail .road) (r .tail .metres))
+
+module _ (r : Route) (area : List ℕ) (room : r .count ≤ length area) where
+  abbrev middle : List ℕ
+  middle = take (r .count) area
+
+  middle-size : length middle ≡ r .count
+  middle-size = length-take-le (r .count) area room
+
+  pub numbers-size : length (numbers-of r area) ≡ size-of r
+  unfolding numbers-of size-of
+  numbers-size =
+      length-three (numbers (part-of (r .head))) middle (numbers (part-of (r .tail)))
+      ∙ rw (length-map (part-of (r .head)) (λ (x : Coverage). x .road .number), length-map (part-of (r .tail)) (λ (x : Coverage). x .road .number), middle-size)
+
+  pub covers-size : (t : Sheet) → length (covers t r area) ≡ size-of r
+  unfolding size-of
+  covers-size t =
+      length-three (part-of (r .head)) (map whole (map (road-at t) middle)) (part-of (r .tail))
+      ∙ rw (length-map (map (road-at t) middle) whole, length-map middle (road-at t), middle-size)
+
+  module _ (first j : ℕ) (is : first ≡ length (part-of (r .head))) where
+    first-size : first ≡ length (numbers (part-of (r .head)))
+    first-size = is ∙ sym (length-map (part-of (r .head)) (λ (x : Coverage). x .road .number))
+
+    pub number-first : j < first → r .head .road .number ≡ getD (numbers-of r area) j 0
+    unfolding numbers-of
+    number-first h = sym (in-front (numbers (part-of (r .head))) middle (numbers (part-of (r .tail))) 0 first j first-size h ∙ part-number (r .head) j (omega arith))
+
+    pub number-middle : first ≤ j → j - first < r .count → getD area (j - first) 0 ≡ getD (numbers-of r area) j 0
+    unfolding numbers-of
+    number-middle h k =
+        sym (in-middle (numbers (part-of (r .head))) middle (numbers (part-of (r .tail))) 0 first j first-size h (omega (arith, middle-size))
+        ∙ getD-take (r .count) area (j - first) 0 k)
+
+    pub number-last : first ≤ j → r .count ≤ j - first → j < size-of r → r .tail .road .number ≡ getD (numbers-of r area) j 0
+    unfolding numbers-of size-of
+    number-last h k l =
+        sym (in-back (numbers (part-of (r .head))) middle (numbers (part-of (r .tail))) 0 first j first-size (r .count) middle-size h k
+        ∙ part-number (r .tail) (j - first - r .count) (omega arith))
+
+-- ---- over roads of the sheet t, by their numbers
+
+module _ {t : Sheet} {c : Counts} {r : Route} {area : List ℕ} (known : Known t c r area) where
+  abbrev between : List Coverage
+  between = map whole (map (road-at t) (take (r .count) area))
+
+  between-size : length between ≡ r .count
+  between-size = length-map (map (road-at t) (take (r .count) area)) whole ∙ length-map (take (r .count) area) (road-at t) ∙ middle-size r area (known .room)
+
+  -- k stands for road j
+  abbrev Covers : Cover → ℕ → Type 0
+  Covers k j = (k .road < c .e) × ((d : Coverage) → coverage-of t k ≡ getD (covers t r area) j d)
+
+  -- a terminal road, by its number
+  own-part : (p : Part) → road-at t (p .road .number) ≡ p .road → coverage-of t record { road = p .road .number; metres = p .metres } ≡ covered p
+  own-part p e = ap (λ (x : Road). record { road = x; metres = p .metres }) e
+
+  -- a leg covers at most N + 1 roads
+  pub covers-few : length (covers t r area) ≤ c .n + 1
+  covers-few = let few = known .few in omega (arith, covers-size r area (known .room) t, size-few r)
+
+  module _ (first j : ℕ) (is : first ≡ length (part-of (r .head))) where
+    pub cover-first : j < first → Covers record { road = r .head .road .number; metres = r .head .metres } j
+    cover-first h =
+        let inside : j < length (part-of (r .head)) = omega arith in
+        let own = known .head (part-kept (r .head) j inside) in
+        (own .0, λ d. own-part (r .head) (own .1) ∙ sym (in-front (part-of (r .head)) between (part-of (r .tail)) d first j is h ∙ part-at (r .head) j inside d))
+
+    module _ (h : first ≤ j) where
+      pub cover-middle : j - first < r .count → (m : Float) → m ≡ road-at t (getD area (j - first) 0) .metres → Covers record { road = getD area (j - first) 0; metres = m } j
+      unfolding whole
+      cover-middle k m e =
+          let i = j - first in
+          let ks = take (r .count) area in
+          let size = middle-size r area (known .room) in (
+            known .numbers i k,
+            λ d. ap (λ (x : Float). record { road = road-at t (getD area i 0); metres = x }) e
+                ∙ sym (in-middle (part-of (r .head)) between (part-of (r .tail)) d first j is h (omega (arith, between-size))
+                ∙ getD-map whole (map (road-at t) ks) i no-road d (omega (arith, length-map ks (road-at t)))
+                ∙ ap whole (getD-map (road-at t) ks i 0 no-road (omega arith) ∙ ap (road-at t) (getD-take (r .count) area i 0 k))),
+          )
+
+      pub cover-last : r .count ≤ j - first → j < length (covers t r area) → Covers record { road = r .tail .road .number; metres = r .tail .metres } j
+      cover-last k l =
+          let at = j - first - r .count in
+          let inside : at < length (part-of (r .tail)) = omega (arith, between-size, length-three (part-of (r .head)) between (part-of (r .tail))) in
+          let own = known .tail (part-kept (r .tail) at inside) in
+          (own .0, λ d. own-part (r .tail) (own .1) ∙ sym (in-back (part-of (r .head)) between (part-of (r .tail)) d first j is (r .count) between-size h k ∙ part-at (r .tail) at inside d))
