@@ -1,0 +1,28 @@
+-- Refusal 6: the number of entries that it asks for fits a usize, and its six tests one after another are the definition's.
+use Prim.Native.Nat.{ℕ, _+_, _*_, _≤_}
+use mathlib.Core.Path.{_≡_}
+use mathlib.Core.Bool.{Bool, true, _&&_}
+use native.Mathlib.Nat.{mul-le-mul}
+use native.Mathlib.Omega.{arith}
+use lib.Dec.{leb}
+use lib.ListN.{length}
+use mir.Syntax.{w64}
+use mir.Val.{Fits}
+use Rattle.model.specs.Table.{all-after, all-of}
+use Rattle.model.specs.Call.{Areas, Lists, most-entries, roomy}
+
+pub most-fits : {a b : ℕ} → a ≤ 20 → b ≤ 1025 → Fits w64 (a * b)
+most-fits h k = omega (arith, mul-le-mul h k)
+
+pub six-tests : (points nodes ids lengths : ℕ) (a : Areas) (l : Lists) (u v w x y z : Bool)
+    → u ≡ (true && leb nodes (a .node))
+    → v ≡ (u && leb (nodes + 1) (a .route))
+    → w ≡ (v && leb 1 (a .heap))
+    → x ≡ (w && leb (most-entries points nodes) (a .coverage))
+    → y ≡ (x && leb (most-entries points nodes) ids)
+    → z ≡ (y && leb (most-entries points nodes) lengths)
+    → length (l .ids) ≡ ids
+    → length (l .lengths) ≡ lengths
+    → z ≡ roomy points nodes a l
+unfolding roomy all-of all-after
+six-tests points nodes ids lengths a l u v w x y z e₁ e₂ e₃ e₄ e₅ e₆ i k = rw (i, k, e₆, e₅, e₄, e₃, e₂, e₁)
