@@ -1,0 +1,243 @@
+-- The loop over the legs: from the next leg on the definition comes to what it comes to from the first, or a refusal stands.
+use Prim.Native.Nat.{ℕ, _+_, _-_, _*_, _≤_, _<_}
+use mathlib.Core.Path.{_≡_, refl, sym, ap, _∙_, subst}
+use mathlib.Core.Bool.{Bool, true, false, cond}
+use mathlib.Core.Option.{Option, none}
+use mathlib.Core.List.{List, [], _++_}
+use native.Mathlib.Nat.{mul-le-mul, add-mul}
+use native.Mathlib.Omega.{arith}
+use lib.Dec.{eqb}
+use lib.ListN.{length, take, drop, length-drop}
+use lib.Seq.{length-take-le, take-append-add, take-append-le}
+use lib.Ieee.{Float}
+use Rattle.model.specs.declared.Counts.{Counts}
+use Rattle.model.specs.Numbers.{_⊕_}
+use Rattle.model.specs.Lists.{tab, last}
+use Rattle.model.specs.Sheet.{Sheet, sheet-of}
+use Rattle.model.specs.Legs.{Coverage, Route, Sought, best, no-path, heap-full}
+use Rattle.model.specs.Decode.{Course, no-course, roads-of, segment-of, extended, course-of, refused, with-primary, after-leg}
+use Rattle.model.specs.Decode as decode
+use Rattle.model.specs.Call.{most-entries}
+use Rattle.courses.specs.Left.{fresh, coverages-at, cover-all}
+use Rattle.courses.proofs.Writing.{skip-none}
+use Rattle.courses.proofs.Appended.{append-numbers}
+use Rattle.lines.specs.declared.Walked.{Walked}
+use Rattle.lines.specs.declared.LegEnd.{LegEnd}
+use Rattle.lines.specs.declared.LegEnd.the-variants as E
+use Rattle.lines.specs.declared.Course as code
+use Rattle.lines.specs.declared.End.{End}
+use Rattle.lines.specs.declared.End.the-variants as D
+use Rattle.lines.specs.declared.Legs.{Legs}
+use Rattle.lines.specs.Legs.{leg-limits, leg-sought, segment-as, road-numbers, Walks, Leaves, Stands, Ends, line, point-along-line, nothing-walked, extended-by, advanced, alone-of, Short}
+use Rattle.lines.proofs.Sequence.{leg-from, from-leg, line-start, line-step, line-end, point-is}
+
+-- ---- room
+
+-- i rows of w entries, and one more
+rows-more : (i w : ℕ) → (i + 1) * w ≡ i * w + w
+rows-more i w = add-mul i 1 w ∙ omega arith
+
+rows-fit : (i j w : ℕ) → i ≤ j → i * w ≤ j * w
+rows-fit i j w h = mul-le-mul h (omega arith)
+
+-- ---- the lent tail
+
+-- what a leg writes into the tail stands behind the first `at`
+pub tail-split : (ids ys rest : List ℕ) (at m : ℕ) → at ≤ length ids → m ≤ length ys → take (at + m) (take at ids ++ (ys ++ rest)) ≡ take at ids ++ take m ys
+tail-split ids ys rest at m h g =
+    let l : length (take at ids) ≡ at = length-take-le at ids h in
+    ap (λ (n : ℕ). take (n + m) (take at ids ++ (ys ++ rest))) (sym l)
+    ∙ take-append-add (take at ids) (ys ++ rest) m
+    ∙ ap (λ (r : List ℕ). take at ids ++ r) (take-append-le m ys rest g)
+
+-- the tail has what is left of the length
+pub tail-long : (ids : List ℕ) (at : ℕ) → at ≤ length ids → length (take (length ids - at) (drop at ids)) ≡ length ids - at
+tail-long ids at h = length-take-le (length ids - at) (drop at ids) (simp length-drop (omega arith))
+
+-- ---- one leg more
+
+module _ (s : List ℕ) (c : Counts) (slots : ℕ) where
+  abbrev t : Sheet
+  t = sheet-of s c
+
+  abbrev row : ℕ
+  row = c .n + 1
+
+  -- the legs so far, by how they end
+  unfoldable pub So-far : ℕ → List ℕ → List ℕ → List Float → End → code.Course → Type 0
+  So-far i ids covered coverage D.Done x = (k : Course) × (from-leg s c slots i k ≡ line (sheet-of s c) slots) × Stands (sheet-of s c) (c .e) (i * (c .n + 1)) k ids covered coverage x
+  So-far i ids covered coverage (D.NoPath j) x = (line (sheet-of s c) slots ≡ refused 10 j (j + 1)) × (j < c .p)
+  So-far i ids covered coverage (D.HeapFull j) x = line (sheet-of s c) slots ≡ refused 11 j 0
+
+  pub record Going (ids covered : List ℕ) (coverage : List Float) (x : Legs) : Type 0 where
+    pub in-range : x .next ≤ c .p
+    pub running : x .next + 1 < c .p → x .end ≡ D.Done
+    pub so-far : So-far (x .next) ids covered coverage (x .end) (x .course)
+
+  pub going-start : (ids covered : List ℕ) (coverage : List Float) → Going ids covered coverage nothing-walked
+  unfolding So-far coverages-at tab
+  going-start ids covered coverage = record {
+    in-range = omega arith;
+    running = λ h. refl;
+    so-far = (
+      no-course,
+      line-start s c slots,
+      record {
+        roads = refl;
+        coverages = refl;
+        total = refl;
+        first = refl;
+        last = refl;
+        few-roads = omega arith;
+        few-coverages = omega arith;
+        below = λ j h. absurd (omega arith);
+      },
+    );
+  }
+
+  module _ {ids covered : List ℕ} {coverage : List Float} {x : Legs} (g : Going ids covered coverage x) (h : x .next + 1 < c .p) where
+    -- the course so far
+    pub stands-now : (k : Course) × (from-leg s c slots (x .next) k ≡ line (sheet-of s c) slots) × Stands (sheet-of s c) (c .e) (x .next * (c .n + 1)) k ids covered coverage (x .course)
+    unfolding So-far
+    stands-now = rw (g .running h) at (g .so-far)
+
+    -- the room for one leg more
+    pub room : (i : ℕ) → i ≤ x .next * (c .n + 1) → i + c .n + 1 ≤ most-entries (c .p) (c .n)
+    room i few =
+        let one = rows-more (x .next) row in
+        let all = rows-fit (x .next + 1) (c .p + 4) row (omega arith) in
+        omega arith
+
+    pub nearer : (e : LegEnd) → c .p - advanced x (c .p) e .next < c .p - x .next
+    unfolding advanced
+    nearer (E.Walked w) = omega arith
+    nearer E.NoPath = omega arith
+    nearer E.HeapFull = omega arith
+
+    -- the leg's roads stand behind those already written
+    module _ (ids₁ out covered₁ : List ℕ) (coverage₁ : List Float) (split : (m : ℕ) → m ≤ c .n + 1 → take (x .course .written + m) ids₁ ≡ take (x .course .written) ids ++ take m out) where
+      abbrev k : Course
+      k = stands-now .0
+
+      abbrev stands : Stands (sheet-of s c) (c .e) (x .next * (c .n + 1)) k ids covered coverage (x .course)
+      stands = stands-now .2
+
+      next-is : (so : Sought) → leg-sought t slots (x .next) ≡ so → after-leg (x .next) so (λ r. from-leg s c slots (x .next + 1) (extended (x .next) k (leg-from s c (x .next)) r)) ≡ line t slots
+      next-is so is =
+          ap (λ (z : Sought). after-leg (x .next) z (λ r. from-leg s c slots (x .next + 1) (extended (x .next) k (leg-from s c (x .next)) r))) (sym is)
+          ∙ sym (line-step s c slots (x .next) k h)
+          ∙ stands-now .1
+
+      module _ (r : Route) (w : Walked) (walks : Walks (sheet-of s c) c true (leg-limits (sheet-of s c) (x .next) .dnp) (last (take (x .course .written) ids)) (coverages-at (sheet-of s c) (x .course .covered) covered coverage) (x .course .covered) r out covered₁ coverage₁ w) where
+        segment-is : segment-as (w .segment) ≡ segment-of (leg-from s c (x .next)) r
+        unfolding segment-of
+        segment-is = walks .segment
+
+        first-is : (b : Bool) → segment-as (cond b (w .segment) (x .course .first)) ≡ cond b (segment-of (leg-from s c (x .next)) r) (k .first-segment)
+        first-is true = segment-is
+        first-is false = stands .first
+
+        stands-on : Stands (sheet-of s c) (c .e) ((x .next + 1) * (c .n + 1)) (extended (x .next) k (leg-from s c (x .next)) r) ids₁ covered₁ coverage₁ (extended-by (x .next) (x .course) w)
+        unfolding extended cover-all segment-of
+        stands-on =
+            let one = rows-more (x .next) row in
+            record {
+              roads =
+                  split (w .written) (walks .few)
+                  ∙ ap (λ (l : List ℕ). take (x .course .written) ids ++ l) (walks .roads)
+                  ∙ ap (λ (l : List ℕ). l ++ fresh (last l) (road-numbers (roads-of r))) (stands .roads)
+                  ∙ sym (append-numbers (k .roads) (roads-of r));
+              coverages = walks .coverages ∙ ap (λ ks. cover-all true ks (r .coverages)) (stands .coverages);
+              total = ap (λ (y : Float). y ⊕ w .segment .«length_m») (stands .total) ∙ ap (λ (y : decode.Segment). k .total ⊕ y .length-m) segment-is;
+              first = first-is (eqb (x .next) 0);
+              last = segment-is;
+              few-roads = (let a = stands .few-roads in let b = walks .few in omega arith);
+              few-coverages = (let a = stands .few-coverages in let b = walks .most in omega arith);
+              below = walks .below;
+            }
+
+      pub going-on : (e : LegEnd)
+          → Leaves (sheet-of s c) c true (leg-limits (sheet-of s c) (x .next) .dnp) (last (take (x .course .written) ids)) (coverages-at (sheet-of s c) (x .course .covered) covered coverage) (x .course .covered) (leg-sought (sheet-of s c) slots (x .next)) out covered₁ coverage₁ e
+          → Going ids₁ covered₁ coverage₁ (advanced x (c .p) e)
+      unfolding Leaves So-far advanced after-leg
+      going-on (E.Walked w) left = record {
+        in-range = omega arith;
+        running = λ g. refl;
+        so-far = (extended (x .next) k (leg-from s c (x .next)) (left .0), next-is (best (left .0)) (left .1), stands-on (left .0) w (left .2));
+      }
+      going-on E.NoPath left = record { in-range = omega arith; running = λ g. absurd (omega arith); so-far = (sym (next-is no-path left), omega arith) }
+      going-on E.HeapFull left = record { in-range = omega arith; running = λ g. absurd (omega arith); so-far = sym (next-is heap-full left) }
+
+  -- ---- few entries
+
+  -- a leg writes few roads, and so do all legs
+  pub short-leg : c .n ≤ 1024 → (summed : Bool) (dnp : Float) (o : Option ℕ) (ks : List Coverage) (n0 : ℕ) (so : Sought) (out covered : List ℕ) (coverage : List Float) (e : LegEnd)
+      → Leaves (sheet-of s c) c summed dnp o ks n0 so out covered coverage e → Short e
+  unfolding Leaves Short
+  short-leg few summed dnp o ks n0 so out covered coverage (E.Walked w) left = (let g = left .2 .few in omega arith)
+  short-leg few summed dnp o ks n0 so out covered coverage E.NoPath left = tt
+  short-leg few summed dnp o ks n0 so out covered coverage E.HeapFull left = tt
+
+  pub few-entries : c .p ≤ 16 → c .n ≤ 1024 → most-entries (c .p) (c .n) ≤ 20500
+  few-entries p n =
+      let points : c .p + 4 ≤ 20 = omega arith in
+      let nodes : c .n + 1 ≤ 1025 = omega arith in
+      mul-le-mul points nodes
+
+  -- room for the first leg
+  pub room-first : c .n + 1 ≤ most-entries (c .p) (c .n)
+  room-first =
+      let all = rows-fit 1 (c .p + 4) row (omega arith) in
+      omega arith
+
+  -- ---- the end of the legs
+
+  more-room : (few most : ℕ) → few ≤ most → {k : Course} {ids covered : List ℕ} {coverage : List Float} {x : code.Course} → Stands (sheet-of s c) (c .e) few k ids covered coverage x → Stands (sheet-of s c) (c .e) most k ids covered coverage x
+  more-room few most h f = record {
+    roads = f .roads;
+    coverages = f .coverages;
+    total = f .total;
+    first = f .first;
+    last = f .last;
+    few-roads = (let a = f .few-roads in omega arith);
+    few-coverages = (let a = f .few-coverages in omega arith);
+    below = f .below;
+  }
+
+  pub going-end : {ids covered : List ℕ} {coverage : List Float} {x : Legs} → Going ids covered coverage x → c .p ≤ x .next + 1 → Ends (sheet-of s c) c (line (sheet-of s c) slots) ids covered coverage (x .end) (x .course)
+  unfolding So-far Ends
+  going-end {ids} {covered} {coverage} {x} g h = go (x .end) (g .so-far)
+    where
+      go : (e : End) → So-far (x .next) ids covered coverage e (x .course) → Ends (sheet-of s c) c (line (sheet-of s c) slots) ids covered coverage e (x .course)
+      go D.Done f = (f .0, sym (f .1) ∙ line-end s c slots (x .next) (f .0) h, more-room (x .next * row) (c .p * row) (rows-fit (x .next) (c .p) row (g .in-range)) (f .2))
+      go (D.NoPath j) f = f
+      go (D.HeapFull j) f = f
+
+  -- ---- the one leg of a point along line
+
+  module _ (two : c .p ≡ 2) (ids covered : List ℕ) (coverage : List Float) where
+    alone-comes : (so : Sought) → leg-sought t slots 0 ≡ so → point-along-line t slots ≡ after-leg 0 so (λ r. with-primary (c .p) (course-of (leg-from s c 0) r))
+    alone-comes so is = point-is s c slots two ∙ ap (λ (z : Sought). after-leg 0 z (λ r. with-primary (c .p) (course-of (leg-from s c 0) r))) is
+
+    alone-stands : (r : Route) (w : Walked) → Walks (sheet-of s c) c false (leg-limits (sheet-of s c) 0 .dnp) none [] 0 r ids covered coverage w
+        → Stands (sheet-of s c) (c .e) (c .p * (c .n + 1)) (course-of (leg-from s c 0) r) ids covered coverage (record { written = w .written; covered = w .covered; total = w .segment .«length_m»; first = w .segment; last = w .segment })
+    unfolding course-of segment-of cover-all
+    alone-stands r w walks =
+        let all : row ≤ c .p * row = subst (λ (p : ℕ). row ≤ p * row) (sym two) (omega arith) in
+        record {
+          roads = walks .roads ∙ sym (skip-none (road-numbers (roads-of r)));
+          coverages = walks .coverages;
+          total = ap (λ (y : decode.Segment). y .length-m) (walks .segment);
+          first = walks .segment;
+          last = walks .segment;
+          few-roads = (let b = walks .few in omega arith);
+          few-coverages = (let b = walks .most in omega arith);
+          below = walks .below;
+        }
+
+    pub alone-ends : (e : LegEnd) → Leaves (sheet-of s c) c false (leg-limits (sheet-of s c) 0 .dnp) none [] 0 (leg-sought (sheet-of s c) slots 0) ids covered coverage e
+        → Ends (sheet-of s c) c (point-along-line (sheet-of s c) slots) ids covered coverage (alone-of nothing-walked e .end) (alone-of nothing-walked e .course)
+    unfolding Leaves Ends alone-of after-leg
+    alone-ends (E.Walked w) left = (course-of (leg-from s c 0) (left .0), alone-comes (best (left .0)) (left .1), alone-stands (left .0) w (left .2))
+    alone-ends E.NoPath left = (alone-comes no-path left, omega arith)
+    alone-ends E.HeapFull left = alone-comes heap-full left

@@ -1,0 +1,89 @@
+-- What a leg leaves, by what it found.
+use Prim.Native.Nat.{ℕ, _+_, _≤_, _<_}
+use mathlib.Core.Path.{_≡_, refl, sym, ap, _∙_, subst}
+use mathlib.Core.Bool.{Bool}
+use mathlib.Core.Option.{Option}
+use mathlib.Core.List.{List}
+use native.Mathlib.Omega.{arith}
+use lib.ListN.{take}
+use lib.Ieee.{Float}
+use Rattle.model.specs.declared.Counts.{Counts}
+use Rattle.model.specs.declared.Point.{Point}
+use Rattle.model.specs.declared.Limits.{Limits}
+use Rattle.model.specs.Layout.{points-bytes}
+use Rattle.model.specs.Sheet.{Stop, Sheet, sheet-of, road-at, point-of, stop-of}
+use Rattle.model.specs.View.{limits-of}
+use Rattle.model.specs.declared.Candidate.{Candidate}
+use Rattle.model.specs.Legs.{Coverage, find-best-path}
+use Rattle.model.specs.Legs as model
+use Rattle.model.proofs.Parsed.{stop-is}
+use Rattle.candidates.specs.declared.find.Candidates.{Candidates}
+use Rattle.candidates.specs.Found.{no-stop, candidates-at, Found}
+use Rattle.rules.specs.declared.Route.{Route}
+use Rattle.rules.specs.Code.{path-of}
+use Rattle.legs.specs.declared.Sought as legs
+use Rattle.legs.specs.declared.Sought.the-variants as S
+use Rattle.legs.specs.Found.{seek-at, sought-of, Inside}
+use Rattle.search.specs.Answers.{Numbers}
+use Rattle.courses.specs.Left.{covers, Known, numbers-of, fresh, coverages-at, cover-all}
+use Rattle.courses.proofs.Appended.{numbers-are, numbers-of-roads}
+use Rattle.lines.specs.declared.Walked.{Walked}
+use Rattle.lines.specs.declared.LegEnd.the-variants as E
+use Rattle.lines.specs.Legs.{leg-limits, leg-sought, KnownAs, Leaves}
+
+-- the point of the leg's start
+pub limits-are : (s : List ℕ) (c : Counts) (i : ℕ) → i < c .p → (p : Point) → p ≡ point-of (points-bytes s c) i → limits-of (sheet-of s c .settings) p ≡ leg-limits (sheet-of s c) i
+unfolding stop-of
+limits-are s c i h p is = ap (limits-of (sheet-of s c .settings)) (is ∙ ap (λ (x : Stop). x .point) (sym (stop-is s c i h no-stop)))
+
+-- the candidates run between the sheet's nodes
+pub inside : {t : Sheet} {c : Counts} {i : ℕ} {r : Candidates} → Found t c i r → Inside (c .n) r
+inside f = λ k h. (f .items k h .source, f .items k h .target)
+
+-- what a leg finds, with its limits and candidates at hand
+pub sought-is : (t : Sheet) (slots i : ℕ) {b : Limits} {xs ys : List Candidate} → b ≡ leg-limits t i → xs ≡ candidates-at t i → ys ≡ candidates-at t (i + 1)
+    → find-best-path b (seek-at t slots b) xs ys ≡ leg-sought t slots i
+unfolding leg-sought
+sought-is t slots i limits starts ends = rw (limits, starts, ends)
+
+pub known-route : {t : Sheet} {c : Counts} {x : legs.Sought} {area : List ℕ} {r : Route} → x ≡ S.Best r → KnownAs t c x area → Known t c r area
+unfolding KnownAs
+known-route is k = rw is at k
+
+pub leaves-as : (t : Sheet) (c : Counts) (summed : Bool) (o : Option ℕ) (ks : List Coverage) (n0 : ℕ) (out covered : List ℕ) (coverage : List Float) (e : E.the-data) {b b₁ : Limits} {so so₁ : model.Sought}
+    → b ≡ b₁ → so ≡ so₁ → Leaves t c summed (b .dnp) o ks n0 so out covered coverage e → Leaves t c summed (b₁ .dnp) o ks n0 so₁ out covered coverage e
+leaves-as t c summed o ks n0 out covered coverage e {b} {b₁} {so} {so₁} limits finds left =
+    subst (λ (x : Limits). Leaves t c summed (x .dnp) o ks n0 so₁ out covered coverage e) limits (subst (λ (x : model.Sought). Leaves t c summed (b .dnp) o ks n0 x out covered coverage e) finds left)
+
+module _ (s : List ℕ) (c : Counts) (summed : Bool) (dnp : Float) (o : Option ℕ) (ks : List Coverage) (n0 : ℕ) (x : legs.Sought) (area out covered : List ℕ) (coverage : List Float) where
+  abbrev t : Sheet
+  t = sheet-of s c
+
+  abbrev pub Left-by : E.the-data → Type 0
+  Left-by = Leaves (sheet-of s c) c summed dnp o ks n0 (sought-of (road-at (sheet-of s c)) x area) out covered coverage
+
+  pub leaves-route : (r : Route) → x ≡ S.Best r → Known (sheet-of s c) c r area → (written count : ℕ)
+      → written ≤ r .count + 2 → take written out ≡ fresh o (numbers-of r area)
+      → count ≤ n0 + c .n + 1 → Numbers (c .e) count covered → coverages-at (sheet-of s c) count covered coverage ≡ cover-all summed ks (covers (sheet-of s c) r area)
+      → Left-by (E.Walked record { written = written; covered = count; segment = record { «length_m» = r .total; «expected_m» = dnp; «start_offset» = r .«start_offset»; «end_offset» = r .«end_offset» } })
+  unfolding Leaves sought-of
+  leaves-route r is known written count few roads most below coverages = (
+    path-of (road-at t) r area,
+    rw is,
+    record {
+      roads = roads ∙ ap (fresh o) (numbers-are s c r area known ∙ numbers-of-roads t r area);
+      coverages = coverages;
+      segment = refl;
+      few = (let g = known .few in omega arith);
+      most = most;
+      below = below;
+    },
+  )
+
+  pub leaves-none : x ≡ S.NoPath → Left-by E.NoPath
+  unfolding Leaves sought-of
+  leaves-none is = rw is
+
+  pub leaves-full : x ≡ S.HeapFull → Left-by E.HeapFull
+  unfolding Leaves sought-of
+  leaves-full is = rw is

@@ -1,0 +1,4 @@
+pub mod Sequence
+pub mod Owned
+pub mod Leaving
+pub mod Going

@@ -1,0 +1,129 @@
+-- What the legs of a reference leave in the lent areas, and what that stands for in the definition.
+use Prim.Native.Nat.{ℕ, _+_, _*_, _≤_, _<_}
+use mathlib.Core.Path.{_≡_}
+use mathlib.Core.Bool.{Bool, cond}
+use mathlib.Core.Option.{Option}
+use mathlib.Core.List.{List, map}
+use lib.Dec.{eqb}
+use lib.ListN.{take, drop}
+use lib.Ieee.{Float}
+use Rattle.model.specs.declared.Counts.{Counts}
+use Rattle.model.specs.declared.Road.{Road}
+use Rattle.model.specs.declared.Limits.{Limits}
+use Rattle.model.specs.Numbers.{_⊕_, f0}
+use Rattle.model.specs.Sheet.{Sheet}
+use Rattle.model.specs.View.{limits-of, view}
+use Rattle.model.specs.Search.{bounded-astar}
+use Rattle.model.specs.Legs.{Coverage, Route, Sought, best, no-path, heap-full, find-best-path}
+use Rattle.model.specs.Decode.{Course, no-course, roads-of, Outcome, refused, with-primary, decode-line, decode-point-along-line}
+use Rattle.model.specs.Decode as decode
+use Rattle.candidates.specs.Found.{stop-at, candidates-at}
+use Rattle.candidates.specs.Points.{candidates-of}
+use Rattle.legs.specs.Found.{seek-at}
+use Rattle.legs.specs.declared.Sought as legs
+use Rattle.legs.specs.declared.Sought.the-variants as S
+use Rattle.search.specs.Answers.{Numbers}
+use Rattle.courses.specs.Left.{Known, fresh, coverages-at, cover-all}
+use Rattle.lines.specs.declared.Segment.{Segment}
+use Rattle.lines.specs.declared.Walked.{Walked}
+use Rattle.lines.specs.declared.LegEnd.{LegEnd}
+use Rattle.lines.specs.declared.LegEnd.the-variants as E
+use Rattle.lines.specs.declared.Course as code
+use Rattle.lines.specs.declared.Legs.{Legs}
+use Rattle.lines.specs.declared.End.{End}
+use Rattle.lines.specs.declared.End.the-variants as D
+
+-- ---- one leg
+
+abbrev pub leg-limits : Sheet → ℕ → Limits
+leg-limits t i = limits-of (t .settings) (stop-at t i .point)
+
+-- what the leg from point i finds, with a heap of `slots` entries
+unfoldable pub leg-sought : Sheet → ℕ → ℕ → Sought
+leg-sought t slots i = find-best-path (leg-limits t i) (seek-at t slots (leg-limits t i)) (candidates-at t i) (candidates-at t (i + 1))
+
+abbrev pub segment-as : Segment → decode.Segment
+segment-as g = record { length-m = g .«length_m»; expected-m = g .«expected_m»; start-offset = g .«start_offset»; end-offset = g .«end_offset» }
+
+abbrev pub road-numbers : List Road → List ℕ
+road-numbers rs = map (λ (x : Road). x .number) rs
+
+-- a route that a leg found runs over roads of the sheet
+unfoldable pub KnownAs : Sheet → Counts → legs.Sought → List ℕ → Type 0
+KnownAs t c (S.Best r) area = Known t c r area
+KnownAs t c S.NoPath area = Unit {0}
+KnownAs t c S.HeapFull area = Unit {0}
+
+-- The route r of a leg, left behind the road o and n0 coverages ks: its roads in `out`, its coverages, its segment.
+pub record Walks (t : Sheet) (c : Counts) (summed : Bool) (dnp : Float) (o : Option ℕ) (ks : List Coverage) (n0 : ℕ) (r : Route) (out covered : List ℕ) (coverage : List Float) (w : Walked) : Type 0 where
+  pub roads : take (w .written) out ≡ fresh o (road-numbers (roads-of r))
+  pub coverages : coverages-at t (w .covered) covered coverage ≡ cover-all summed ks (r .coverages)
+  pub segment : segment-as (w .segment) ≡ record { length-m = r .total; expected-m = dnp; start-offset = r .start-offset; end-offset = r .end-offset }
+  pub few : w .written ≤ c .n + 1
+  pub most : w .covered ≤ n0 + c .n + 1
+  pub below : Numbers (c .e) (w .covered) covered
+
+-- how a leg that finds `so` ends
+unfoldable pub Leaves : Sheet → Counts → Bool → Float → Option ℕ → List Coverage → ℕ → Sought → List ℕ → List ℕ → List Float → LegEnd → Type 0
+Leaves t c summed dnp o ks n0 so out covered coverage (E.Walked w) = (r : Route) × (so ≡ best r) × Walks t c summed dnp o ks n0 r out covered coverage w
+Leaves t c summed dnp o ks n0 so out covered coverage E.NoPath = so ≡ no-path
+Leaves t c summed dnp o ks n0 so out covered coverage E.HeapFull = so ≡ heap-full
+
+-- ---- all legs
+
+-- The course k, in the lent areas: the numbers of its roads in the front of `ids`, and its coverages, at most `most` of each.
+pub record Stands (t : Sheet) (e most : ℕ) (k : Course) (ids covered : List ℕ) (coverage : List Float) (x : code.Course) : Type 0 where
+  pub roads : take (x .written) ids ≡ road-numbers (k .roads)
+  pub coverages : coverages-at t (x .covered) covered coverage ≡ k .coverages
+  pub total : x .total ≡ k .total
+  pub first : segment-as (x .first) ≡ k .first-segment
+  pub last : segment-as (x .last) ≡ k .last-segment
+  pub few-roads : x .written ≤ most
+  pub few-coverages : x .covered ≤ most
+  pub below : Numbers e (x .covered) covered
+
+-- how the legs end that come to the outcome o
+unfoldable pub Ends : Sheet → Counts → Outcome → List ℕ → List ℕ → List Float → End → code.Course → Type 0
+Ends t c o ids covered coverage D.Done x = (k : Course) × (o ≡ with-primary (c .p) k) × Stands t (c .e) (c .p * (c .n + 1)) k ids covered coverage x
+Ends t c o ids covered coverage (D.NoPath i) x = (o ≡ refused 10 i (i + 1)) × (i < c .p)
+Ends t c o ids covered coverage (D.HeapFull i) x = o ≡ refused 11 i 0
+
+-- what the legs of a line come to, and the one leg of a point along line
+abbrev pub line : Sheet → ℕ → Outcome
+line t slots = decode-line (view t) (bounded-astar slots) 0 no-course (candidates-at t 0) (view t .legs) (drop 1 (candidates-of t))
+
+abbrev pub point-along-line : Sheet → ℕ → Outcome
+point-along-line t slots = decode-point-along-line (view t) (bounded-astar slots) (candidates-at t 0) (view t .legs) (drop 1 (candidates-of t))
+
+-- ---- the legs so far, by value
+
+abbrev pub no-walk : Segment
+no-walk = record { «length_m» = f0; «expected_m» = f0; «start_offset» = f0; «end_offset» = f0 }
+
+abbrev pub nothing-walked : Legs
+nothing-walked = record { next = 0; end = D.Done; course = record { written = 0; covered = 0; total = f0; first = no-walk; last = no-walk } }
+
+abbrev pub extended-by : ℕ → code.Course → Walked → code.Course
+extended-by i x w = record {
+  written = x .written + w .written;
+  covered = w .covered;
+  total = x .total ⊕ w .segment .«length_m»;
+  first = cond (eqb i 0) (w .segment) (x .first);
+  last = w .segment;
+}
+
+unfoldable pub advanced : Legs → ℕ → LegEnd → Legs
+advanced x points (E.Walked w) = record { next = x .next + 1; end = D.Done; course = extended-by (x .next) (x .course) w }
+advanced x points E.NoPath = record { next = points; end = D.NoPath (x .next); course = x .course }
+advanced x points E.HeapFull = record { next = points; end = D.HeapFull (x .next); course = x .course }
+
+unfoldable pub alone-of : Legs → LegEnd → Legs
+alone-of x (E.Walked w) = record { next = 1; end = D.Done; course = record { written = w .written; covered = w .covered; total = w .segment .«length_m»; first = w .segment; last = w .segment } }
+alone-of x E.NoPath = record { next = 1; end = D.NoPath 0; course = x .course }
+alone-of x E.HeapFull = record { next = 1; end = D.HeapFull 0; course = x .course }
+
+-- a leg writes few roads
+unfoldable pub Short : LegEnd → Type 0
+Short (E.Walked w) = w .written ≤ 1000000
+Short E.NoPath = Unit {0}
+Short E.HeapFull = Unit {0}

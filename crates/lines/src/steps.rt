@@ -1,0 +1,120 @@
+// The legs so far, by value.
+use crate::Course;
+use crate::End;
+use crate::LegEnd;
+use crate::Legs;
+use crate::Segment;
+use crate::Walked;
+ghost use mathlib.Core.Path.{_≡_};
+ghost use mathlib.Core.Bool.{cond};
+ghost use Prim.Native.Nat.{_≤_};
+ghost use lib.Dec.{eqb};
+ghost use Rattle.lines.specs.Legs.{nothing-walked, extended-by, advanced, alone-of, Short};
+
+// No leg walked yet.
+pub fn begin() -> Legs
+    ensures { λ r. ⌜ r ≡ nothing-walked ⌝ }
+{
+    let none = Segment {
+        length_m: 0.0,
+        expected_m: 0.0,
+        start_offset: 0.0,
+        end_offset: 0.0,
+    };
+    Legs {
+        next: 0,
+        end: End::Done,
+        course: Course {
+            written: 0,
+            covered: 0,
+            total: 0.0,
+            first: none,
+            last: none,
+        },
+    }
+}
+
+// The segment of leg 0 is the first one; it stays afterwards.
+fn first_segment(i: usize, segment: Segment, first: Segment) -> Segment
+    ensures { λ r. ⌜ r ≡ cond (eqb i 0) segment first ⌝ }
+{
+    if i == 0 { segment } else { first }
+}
+
+// The course after leg i of a line.
+fn extended(i: usize, x: Course, w: Walked) -> Course
+    requires { ⌜ (x .written ≤ 1000000) × (w .written ≤ 1000000) ⌝ }
+    ensures { λ r. ⌜ r ≡ extended-by i x w ⌝ }
+{
+    let segment = w.segment;
+    let first = first_segment(i, segment, x.first);
+    Course {
+        written: x.written + w.written,
+        covered: w.covered,
+        total: x.total + segment.length_m,
+        first,
+        last: segment,
+    }
+}
+
+// The legs of a line after the next one has ended so; `points` ends them.
+pub fn advance(x: Legs, points: usize, e: LegEnd) -> Legs
+    requires { ⌜ (x .next ≤ 1000000) × (x .course .written ≤ 1000000) × Short e ⌝ }
+    ensures { λ r. ⌜ r ≡ advanced x points e ⌝ }
+{
+    let i = x.next;
+    let course = x.course;
+    match e {
+        LegEnd::Walked(w) => {
+            let longer = extended(i, course, w);
+            Legs {
+                next: i + 1,
+                end: End::Done,
+                course: longer,
+            }
+        }
+        LegEnd::NoPath => Legs {
+            next: points,
+            end: End::NoPath(i),
+            course,
+        },
+        LegEnd::HeapFull => Legs {
+            next: points,
+            end: End::HeapFull(i),
+            course,
+        },
+    }
+}
+
+// The one leg of a point along line.
+pub fn alone(x: Legs, e: LegEnd) -> Legs
+    ensures { λ r. ⌜ r ≡ alone-of x e ⌝ }
+{
+    let none = x.course;
+    match e {
+        LegEnd::Walked(w) => {
+            let segment = w.segment;
+            Legs {
+                next: 1,
+                end: End::Done,
+                course: Course {
+                    written: w.written,
+                    covered: w.covered,
+                    total: segment.length_m,
+                    first: segment,
+                    last: segment,
+                },
+            }
+        }
+        LegEnd::NoPath => Legs {
+            next: 1,
+            end: End::NoPath(0),
+            course: none,
+        },
+        LegEnd::HeapFull => Legs {
+            next: 1,
+            end: End::HeapFull(0),
+            course: none,
+        },
+    }
+}
