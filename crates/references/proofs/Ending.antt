@@ -1,0 +1,63 @@
+-- How a reference ends, by how its legs end.
+use Prim.Native.Nat.{ℕ, _+_, _≤_, _<_}
+use mathlib.Core.Path.{_≡_, sym, subst}
+use mathlib.Core.List.{List}
+use native.Mathlib.Omega.{arith}
+use lib.Ieee.{Float}
+use Rattle.model.specs.declared.Counts.{Counts}
+use Rattle.model.specs.Layout.{most-points}
+use Rattle.model.specs.Sheet.{Sheet}
+use Rattle.model.specs.Decode as decode
+use Rattle.lines.specs.declared.Course.{Course}
+use Rattle.lines.specs.declared.End.{End}
+use Rattle.lines.specs.declared.End.the-variants as D
+use Rattle.lines.specs.Legs.{Ends}
+use Rattle.lines.specs.Legs as legs
+use Rattle.references.specs.declared.Ahead.the-variants as A
+use Rattle.references.specs.declared.Outcome.the-variants as O
+use Rattle.references.specs.Reference.{outcome-with, Looks, Placed, Comes}
+
+module _ (e : End) (x : Course) where
+  abbrev pub Ended-so : O.the-data → Type 0
+  Ended-so r = (t : Sheet) (c : Counts) (o : decode.Outcome) (ids covered : List ℕ) (coverage : List Float) → 0 < c .p → Ends t c o ids covered coverage e x → Comes t c o ids covered coverage r
+
+  pub all-legs : e ≡ D.Done → Ended-so (O.Legs x)
+  unfolding Ends Comes
+  all-legs is t c o ids covered coverage some h = (some, rw is at h)
+
+  pub without-path : (i : ℕ) → e ≡ D.NoPath i → Ended-so (O.Refused 10 i (i + 1))
+  unfolding Ends Comes
+  without-path i is t c o ids covered coverage some h = (rw is at h) .0
+
+  pub heap-used : (i : ℕ) → e ≡ D.HeapFull i → Ended-so (O.Refused 11 i 0)
+  unfolding Ends Comes
+  heap-used i is t c o ids covered coverage some h = rw is at h
+
+  pub small-place : (i : ℕ) → e ≡ D.NoPath i → Placed e → i < most-points
+  unfolding Placed
+  small-place i is h = rw is at h
+
+-- ---- with what was seen ahead
+
+module _ (t : Sheet) (c : Counts) (x : A.the-data) (looks : Looks t c x) where
+  pub refused-ahead : (n a : ℕ) → x ≡ A.Refused n a → (slots : ℕ) (ids covered : List ℕ) (coverage : List Float) → Comes t c (outcome-with t slots) ids covered coverage (O.Refused n a 0)
+  unfolding Looks Comes
+  refused-ahead n a is slots ids covered coverage = (rw is at looks) slots
+
+  pub line-ahead : x ≡ A.Line → (0 < c .p) × (0 < c .n) × ((slots : ℕ) → outcome-with t slots ≡ legs.line t slots)
+  unfolding Looks
+  line-ahead is = rw is at looks
+
+  pub point-ahead : x ≡ A.PointAlongLine → (c .p ≡ 2) × (0 < c .n) × ((slots : ℕ) → outcome-with t slots ≡ legs.point-along-line t slots)
+  unfolding Looks
+  point-ahead is = rw is at looks
+
+module _ (t : Sheet) (c : Counts) (o o₁ : decode.Outcome) (ids covered : List ℕ) (coverage : List Float) (e : End) (x : Course) (ends : Ends t c o₁ ids covered coverage e x) where
+  pub ends-as : o ≡ o₁ → Ends t c o ids covered coverage e x
+  ends-as is = subst (λ (y : decode.Outcome). Ends t c y ids covered coverage e x) (sym is) ends
+
+pub places : (t : Sheet) (c : Counts) → c .p ≤ most-points → (o : decode.Outcome) (ids covered : List ℕ) (coverage : List Float) (e : End) (x : Course) → Ends t c o ids covered coverage e x → Placed e
+unfolding Ends Placed
+places t c few o ids covered coverage D.Done x h = tt
+places t c few o ids covered coverage (D.NoPath i) x h = omega (arith, h .1)
+places t c few o ids covered coverage (D.HeapFull i) x h = tt

@@ -1,0 +1,52 @@
+-- What the code's answers stand for in the definition.
+use Prim.Native.Nat.{ℕ, _+_, _*_, _<_}
+use mathlib.Core.Path.{_≡_}
+use mathlib.Core.Logic.{_≢_}
+use mathlib.Core.List.{List}
+use lib.Ieee.{Float}
+use Rattle.model.specs.declared.Counts.{Counts}
+use Rattle.model.specs.Layout.{most-points, point-along-line}
+use Rattle.model.specs.Sheet.{Sheet}
+use Rattle.model.specs.View.{view}
+use Rattle.model.specs.Search.{bounded-astar}
+use Rattle.model.specs.Decode.{Course, refused, with-primary, outcome}
+use Rattle.model.specs.Decode as decode
+use Rattle.lines.specs.Legs.{Stands}
+use Rattle.lines.specs.Legs as legs
+use Rattle.lines.specs.declared.End.{End}
+use Rattle.lines.specs.declared.End.the-variants as D
+use Rattle.references.specs.declared.Ahead.{Ahead}
+use Rattle.references.specs.declared.Ahead.the-variants as A
+use Rattle.references.specs.declared.Outcome.{Outcome}
+use Rattle.references.specs.declared.Outcome.the-variants as O
+
+-- ---- before the legs
+
+-- a point along line by its kind
+unfoldable pub Asks : ℕ → Ahead → Type 0
+Asks kind (A.Refused n a) = ⊥
+Asks kind A.Line = kind ≢ point-along-line
+Asks kind A.PointAlongLine = kind ≡ point-along-line
+
+-- the outcome of the sheet t with a heap of `slots` entries
+abbrev pub outcome-with : Sheet → ℕ → decode.Outcome
+outcome-with t slots = outcome (view t) (bounded-astar slots)
+
+-- refused, or the legs come, between points with candidates
+unfoldable pub Looks : Sheet → Counts → Ahead → Type 0
+Looks t c (A.Refused n a) = (slots : ℕ) → outcome-with t slots ≡ refused n a 0
+Looks t c A.Line = (0 < c .p) × (0 < c .n) × ((slots : ℕ) → outcome-with t slots ≡ legs.line t slots)
+Looks t c A.PointAlongLine = (c .p ≡ 2) × (0 < c .n) × ((slots : ℕ) → outcome-with t slots ≡ legs.point-along-line t slots)
+
+-- ---- after the legs
+
+-- the number of a leg without a path is small
+unfoldable pub Placed : End → Type 0
+Placed D.Done = Unit {0}
+Placed (D.NoPath i) = i < most-points
+Placed (D.HeapFull i) = Unit {0}
+
+-- how a reference ends that comes to the outcome o: refused, or with a course k in the lent areas, whose primary road decides
+unfoldable pub Comes : Sheet → Counts → decode.Outcome → List ℕ → List ℕ → List Float → Outcome → Type 0
+Comes t c o ids covered coverage (O.Refused n a b) = o ≡ refused n a b
+Comes t c o ids covered coverage (O.Legs x) = (0 < c .p) × ((k : Course) × (o ≡ with-primary (c .p) k) × Stands t (c .e) (c .p * (c .n + 1)) k ids covered coverage x)
