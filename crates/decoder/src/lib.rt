@@ -1,0 +1,153 @@
+// The whole call: one sheet of bytes and lent areas in, an answer and two answer lists out. Nothing is presumed of the caller.
+use answers::Answer;
+use answers::Sizes;
+use model::Counts;
+use model::Judged;
+use sheet::numbers;
+use sheet::points;
+ghost use mathlib.Core.Path.{_≡_};
+ghost use Prim.Native.Nat.{_≤_, _<_, min};
+ghost use lib.ListN.{length};
+ghost use Rattle.model.specs.Judge.{WellFormed};
+ghost use Rattle.model.specs.Sheet.{sheet-of};
+ghost use Rattle.model.specs.View.{view};
+ghost use Rattle.model.specs.Search.{bounded-astar};
+ghost use Rattle.model.specs.Decode.{outcome};
+ghost use Rattle.model.specs.Call.{answered, most-entries, decode};
+ghost use Rattle.search.specs.Areas.{columns, Sized};
+ghost use Rattle.answers.specs.Room.{lists, decoded};
+ghost use Rattle.decoder.specs.Opened.{areas, Opens};
+
+// What refusals 1 to 6 say: refused with its number and A, or on with the counts of a well-formed sheet.
+pub enum Opened {
+    Refused(usize, usize),
+    Open(Counts),
+}
+
+// The lesser of two sizes.
+fn least(a: usize, b: usize) -> usize
+    ensures { λ r. ⌜ r ≡ min a b ⌝ }
+{
+    if a < b { a } else { b }
+}
+
+// Refusals 1 to 6, of any bytes and sizes.
+fn open_sheet(s: &[u8], a: Sizes) -> Opened
+    ensures { λ r. ⌜ Opens (now (s .entry)) a r ⌝ }
+{
+    let verdict = judge::judge(s);
+    match verdict {
+        Judged::Fine => {
+            let c = numbers::counts(s);
+            if answers::roomy(c, a) {
+                return Opened::Open(c);
+            }
+            Opened::Refused(6, 0)
+        }
+        Judged::Refused(number, place) => Opened::Refused(number, place),
+    }
+}
+
+// A well-formed sheet with room: its legs, then its answer and the answer lists.
+fn decode_sheet(
+    s: &[u8],
+    c: Counts,
+    slots: usize,
+    real: &mut [f64],
+    penalised: &mut [f64],
+    came_from: &mut [usize],
+    route: &mut [usize],
+    best_route: &mut [usize],
+    key: &mut [f64],
+    cost: &mut [f64],
+    node: &mut [usize],
+    order: &mut [usize],
+    covered: &mut [usize],
+    coverage: &mut [f64],
+    ids: &mut [u64],
+    lengths: &mut [f64],
+) -> Answer
+    requires { ⌜ WellFormed (now s) c ⌝ }
+    requires { ⌜ (most-entries (c .p) (c .n) ≤ length (now covered)) × (most-entries (c .p) (c .n) ≤ length (now coverage)) × (most-entries (c .p) (c .n) ≤ length (now ids)) × (most-entries (c .p) (c .n) ≤ length (now lengths)) ⌝ }
+    requires { ⌜ (0 < slots) × (c .n ≤ length (now route)) × (c .n ≤ length (now «best_route»)) × Sized (c .n) slots (columns (now real) (now penalised) (now «came_from») (now key) (now cost) (now node) (now order) 0 0) ⌝ }
+    ensures { λ r. ⌜ decoded r (now (ids .exit)) (now (lengths .exit))
+        ≡ answered (sheet-of (now (s .entry)) c) (lists (now (ids .entry)) (now (lengths .entry))) (outcome (view (sheet-of (now (s .entry)) c)) (bounded-astar slots)) ⌝ }
+{
+    let set = points::settings(s, c);
+    let out = references::decode_legs(
+        s,
+        c,
+        slots,
+        real,
+        penalised,
+        came_from,
+        route,
+        best_route,
+        key,
+        cost,
+        node,
+        order,
+        covered,
+        coverage,
+        ids,
+    );
+    finish::answer(s, c, set, out, covered, coverage, ids, lengths)
+}
+
+// One call, on any bytes and any areas. Refusals 1 to 6 leave both answer lists untouched; 7 to 11 zero them; a match zeroes the entries after the path. What stands in the work areas before has no part in the answer, and nothing is said of what stands there afterwards.
+pub fn decode(
+    sheet: &[u8],
+    real: &mut [f64],
+    penalised: &mut [f64],
+    came_from: &mut [usize],
+    route: &mut [usize],
+    best_route: &mut [usize],
+    key: &mut [f64],
+    cost: &mut [f64],
+    node: &mut [usize],
+    order: &mut [usize],
+    covered: &mut [usize],
+    coverage: &mut [f64],
+    ids: &mut [u64],
+    lengths: &mut [f64],
+) -> Answer
+    ensures { λ r. ⌜ decoded r (now (ids .exit)) (now (lengths .exit))
+        ≡ decode (now (sheet .entry))
+        (areas (length (now (real .entry))) (length (now (penalised .entry))) (length (now («came_from» .entry))) (length (now (route .entry))) (length (now («best_route» .entry))) (length (now (key .entry))) (length (now (cost .entry))) (length (now (node .entry))) (length (now (order .entry))) (length (now (covered .entry))) (length (now (coverage .entry))))
+        (lists (now (ids .entry)) (now (lengths .entry))) ⌝ }
+{
+    let nodes = least(real.len(), least(penalised.len(), came_from.len()));
+    let routes = least(route.len(), best_route.len());
+    let slots = least(least(key.len(), cost.len()), least(node.len(), order.len()));
+    let coverages = least(covered.len(), coverage.len());
+    let sizes = Sizes {
+        node: nodes,
+        route: routes,
+        heap: slots,
+        coverage: coverages,
+        ids: ids.len(),
+        lengths: lengths.len(),
+    };
+    let opened = open_sheet(sheet, sizes);
+    match opened {
+        Opened::Refused(number, place) => Answer::Refused(number, place, 0),
+        Opened::Open(c) => decode_sheet(
+            sheet,
+            c,
+            slots,
+            real,
+            penalised,
+            came_from,
+            route,
+            best_route,
+            key,
+            cost,
+            node,
+            order,
+            covered,
+            coverage,
+            ids,
+            lengths,
+        ),
+    }
+}
