@@ -1,8 +1,13 @@
 // The calls for hosts in C or Rust. Built by `rt staticlib hemokatu`.
+use answers::Answer;
 use model::Judged;
 ghost use mathlib.Core.Path.{_≡_};
+ghost use lib.ListN.{length};
 ghost use Rattle.model.specs.Judge.{judged};
-ghost use Rattle.hemokatu.specs.Face.{judgement-of};
+ghost use Rattle.model.specs.Call.{decode};
+ghost use Rattle.answers.specs.Room.{lists, answer-of};
+ghost use Rattle.decoder.specs.Opened.{areas};
+ghost use Rattle.hemokatu.specs.Face.{judgement-of, sizes-of, answered-of, Answers};
 
 // A refusal's number and its place A; both 0 for a well-formed sheet.
 #[repr(C)]
@@ -24,4 +29,133 @@ pub extern "C" fn hemokatu_judge(sheet: &[u8]) -> Judgement
         },
         Judged::Refused(number, place) => Judgement { number, place },
     }
+}
+
+// The least entries of each area for a sheet of some points and nodes: a node area, a route area, the heap, and the coverage area or an answer list. A larger heap lets larger searches end.
+#[repr(C)]
+pub struct Sizes {
+    pub node: usize,
+    pub route: usize,
+    pub heap_least: usize,
+    pub list: usize,
+}
+
+// What refusal 6 asks for; all 0 for counts above their limits, whose sheets are refused 2.
+#[no_mangle]
+pub extern "C" fn hemokatu_sizes(points: usize, nodes: usize) -> Sizes
+    ensures { λ r. ⌜ r ≡ sizes-of points nodes ⌝ }
+{
+    if points <= model::MOST_POINTS {
+        if nodes <= model::MOST_NODES {
+            let more = nodes + 1;
+            let most = (points + 4) * more;
+            return Sizes {
+                node: nodes,
+                route: more,
+                heap_least: 1,
+                list: most,
+            };
+        }
+    }
+    Sizes {
+        node: 0,
+        route: 0,
+        heap_least: 0,
+        list: 0,
+    }
+}
+
+// All that a call answers. Number 0 is a match; a refusal has its number, A and B, and zeros elsewhere.
+#[repr(C)]
+pub struct Answered {
+    pub number: usize,
+    pub a: usize,
+    pub b: usize,
+    pub count: usize,
+    pub length_m: f64,
+    pub start_offset: f64,
+    pub start_fraction: f64,
+    pub end_offset: f64,
+    pub end_fraction: f64,
+    pub primary: u64,
+    pub coverage: f64,
+}
+
+// The number of a match.
+const MATCHED: usize = 0;
+
+// The answer as numbers.
+fn face(answer: Answer) -> Answered
+    ensures { λ r. ⌜ r ≡ answered-of (answer-of answer) ⌝ }
+{
+    match answer {
+        Answer::Matched(m) => Answered {
+            number: MATCHED,
+            a: 0,
+            b: 0,
+            count: m.count,
+            length_m: m.length_m,
+            start_offset: m.start_offset,
+            start_fraction: m.start_fraction,
+            end_offset: m.end_offset,
+            end_fraction: m.end_fraction,
+            primary: m.primary,
+            coverage: m.coverage,
+        },
+        Answer::Refused(number, a, b) => Answered {
+            number,
+            a,
+            b,
+            count: 0,
+            length_m: 0.0,
+            start_offset: 0.0,
+            start_fraction: 0.0,
+            end_offset: 0.0,
+            end_fraction: 0.0,
+            primary: 0,
+            coverage: 0.0,
+        },
+    }
+}
+
+// One call, on any bytes and any areas: the answer, and both answer lists afterwards. What stands in the work areas before has no part in either; what stands there afterwards is the program's choice, and no later call reads it before writing.
+#[no_mangle]
+pub extern "C" fn hemokatu_decode(
+    sheet: &[u8],
+    real: &mut [f64],
+    penalised: &mut [f64],
+    came_from: &mut [usize],
+    route: &mut [usize],
+    best_route: &mut [usize],
+    key: &mut [f64],
+    cost: &mut [f64],
+    node: &mut [usize],
+    order: &mut [usize],
+    covered: &mut [usize],
+    coverage: &mut [f64],
+    ids: &mut [u64],
+    lengths: &mut [f64],
+) -> Answered
+    ensures { λ r. ⌜ Answers r (now (ids .exit)) (now (lengths .exit))
+        (decode (now (sheet .entry))
+        (areas (length (now (real .entry))) (length (now (penalised .entry))) (length (now («came_from» .entry))) (length (now (route .entry))) (length (now («best_route» .entry))) (length (now (key .entry))) (length (now (cost .entry))) (length (now (node .entry))) (length (now (order .entry))) (length (now (covered .entry))) (length (now (coverage .entry))))
+        (lists (now (ids .entry)) (now (lengths .entry)))) ⌝ }
+{
+    let found = decoder::decode(
+        sheet,
+        real,
+        penalised,
+        came_from,
+        route,
+        best_route,
+        key,
+        cost,
+        node,
+        order,
+        covered,
+        coverage,
+        ids,
+        lengths,
+    );
+    face(found)
 }
