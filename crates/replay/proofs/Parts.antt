@@ -1,0 +1,10 @@
+-- The front n entries of an area of 1,024 are n entries.
+use Prim.Native.Nat.{ℕ, _≤_}
+use native.Mathlib.Omega.{arith}
+use mathlib.Core.Path.{_≡_, sym}
+use mathlib.Core.List.{List}
+use lib.ListN.{length, take}
+use lib.Seq.{length-take-le}
+
+pub front : {A : Type 0} (n : ℕ) (area : List A) → n ≤ 1024 → 1024 ≡ length area → n ≡ length (take n area)
+front n area few whole = sym (length-take-le n area (omega arith))

@@ -1,0 +1,61 @@
+// A case's record, 56 bytes: u32 place and length of the sheet, place of the answer, roads of the path, number of the refusal (0: a match), A, B;
+// u16 entries of the thirteen lent areas, in the order of the call; u16 1 where the lists stay untouched, 0 where zeros stand behind the path.
+// The answer of a match: length, offset and fraction at the start, offset and fraction at the end, u64 id of the primary road, its coverage; then u64 id and length of each road. An f64 is stored by its bits.
+use crate::areas::MOST;
+use fields::count_at;
+use fields::u16_at;
+ghost use Prim.Native.Nat.{_+_, _*_, _^_, _≤_, _<_};
+ghost use lib.ListN.{length};
+
+// What a case expects: a refusal's number, A and B, or number 0; where the answer stands and how many roads its path has; 1 where the lists stay untouched.
+pub struct Expected {
+    pub number: usize,
+    pub a: usize,
+    pub b: usize,
+    pub place: usize,
+    pub roads: usize,
+    pub untouched: usize,
+}
+
+pub fn expected_at(file: &[u8], at: usize) -> Expected
+    requires { ⌜ at + 56 ≤ length (now file) ⌝ }
+    ensures { λ r. ⌜ (r .place < 2 ^ 32) × (r .roads < 2 ^ 32) ⌝ }
+{
+    let place = count_at(file, at + 8);
+    let roads = count_at(file, at + 12);
+    let number = count_at(file, at + 16);
+    let a = count_at(file, at + 20);
+    let b = count_at(file, at + 24);
+    let untouched = u16_at(file, at + 54) as usize;
+    Expected {
+        number,
+        a,
+        b,
+        place,
+        roads,
+        untouched,
+    }
+}
+
+// The entries of area k, at most MOST.
+pub fn size_at(file: &[u8], at: usize, k: usize) -> usize
+    requires { ⌜ (at + 56 ≤ length (now file)) × (k < 13) ⌝ }
+    ensures { λ r. ⌜ r ≤ 1024 ⌝ }
+{
+    let size = u16_at(file, at + 28 + 2 * k) as usize;
+    if size < MOST { size } else { MOST }
+}
+
+// Whether every area has at most MOST entries.
+pub fn sizes_fit(file: &[u8], at: usize) -> bool
+    requires { ⌜ at + 56 ≤ length (now file) ⌝ }
+{
+    let mut k = 0;
+    while k < 13 {
+        if MOST < u16_at(file, at + 28 + 2 * k) as usize {
+            return false;
+        }
+        k += 1;
+    }
+    true
+}
