@@ -1,0 +1,220 @@
+//! The port: calls of libhemokatu.a on areas of any size.
+
+use oracle::{Answer, Match, Outcome};
+use sheets::Areas;
+
+#[repr(C)]
+struct Answered {
+    number: usize,
+    a: usize,
+    b: usize,
+    count: usize,
+    length_m: f64,
+    start_offset: f64,
+    start_fraction: f64,
+    end_offset: f64,
+    end_fraction: f64,
+    primary: u64,
+    coverage: f64,
+}
+
+#[repr(C)]
+struct Judgement {
+    number: usize,
+    place: usize,
+}
+
+#[repr(C)]
+struct Sizes {
+    node: usize,
+    route: usize,
+    heap_least: usize,
+    list: usize,
+}
+
+extern "C" {
+    fn hemokatu_sizes(points: usize, nodes: usize) -> Sizes;
+
+    fn hemokatu_judge(sheet: *const u8, sheet_len: usize) -> Judgement;
+
+    #[allow(clippy::too_many_arguments)]
+    fn hemokatu_decode(
+        sheet: *const u8,
+        sheet_len: usize,
+        real: *mut f64,
+        real_len: usize,
+        penalised: *mut f64,
+        penalised_len: usize,
+        came_from: *mut usize,
+        came_from_len: usize,
+        route: *mut usize,
+        route_len: usize,
+        best_route: *mut usize,
+        best_route_len: usize,
+        key: *mut f64,
+        key_len: usize,
+        cost: *mut f64,
+        cost_len: usize,
+        node: *mut usize,
+        node_len: usize,
+        order: *mut usize,
+        order_len: usize,
+        covered: *mut usize,
+        covered_len: usize,
+        coverage: *mut f64,
+        coverage_len: usize,
+        ids: *mut u64,
+        ids_len: usize,
+        lengths: *mut f64,
+        lengths_len: usize,
+    ) -> Answered;
+}
+
+/// The least areas for a sheet of so many points and nodes; None above the limits of either.
+pub fn least_areas(points: usize, nodes: usize) -> Option<Areas> {
+    let s = unsafe { hemokatu_sizes(points, nodes) };
+    let none = [s.node, s.route, s.heap_least, s.list] == [0; 4];
+    (!none).then(|| Areas::of(s.node, s.route, s.heap_least, s.list, s.list))
+}
+
+/// What stands in the answer lists before a call, and behind them.
+const ID: u64 = 0xA5A5_A5A5_A5A5_A5A5;
+const LENGTH: f64 = -7.25e-300;
+
+/// Entries behind a list that nobody lends.
+const GUARD: usize = 8;
+
+/// The areas. What a call leaves in the work areas stays there for the next one.
+#[derive(Default)]
+pub struct Port {
+    floats: [Vec<f64>; 5],
+    numbers: [Vec<usize>; 6],
+    ids: Vec<u64>,
+    lengths: Vec<f64>,
+}
+
+fn grow<T: Clone>(area: &mut Vec<T>, size: usize, filler: T) -> *mut T {
+    if area.len() < size {
+        area.resize(size, filler);
+    }
+    area.as_mut_ptr()
+}
+
+impl Port {
+    pub fn new() -> Port {
+        Port::default()
+    }
+
+    /// Refusals 1 to 5 of any bytes, by number and A.
+    pub fn judge(&self, sheet: &[u8]) -> Option<(usize, usize)> {
+        let j = unsafe { hemokatu_judge(sheet.as_ptr(), sheet.len()) };
+        (j.number != 0).then_some((j.number, j.place))
+    }
+
+    /// One call. An error says what is wrong with the lists.
+    pub fn call(&mut self, sheet: &[u8], areas: &Areas) -> Result<Outcome, String> {
+        let size = areas.0;
+        self.ids = vec![ID; size[11] + GUARD];
+        self.lengths = vec![LENGTH; size[12] + GUARD];
+        let answered = self.decode(sheet, &size);
+        let outcome = self.outcome(&answered, &size)?;
+        if outcome.untouched() {
+            self.rest_is(0, ID, LENGTH, &size)?;
+        } else {
+            self.rest_is(outcome.ids.len(), 0, 0.0, &size)?;
+        }
+        Ok(outcome)
+    }
+
+    fn decode(&mut self, sheet: &[u8], size: &[usize; 13]) -> Answered {
+        let [real, penalised, key, cost, coverage] = &mut self.floats;
+        let [came_from, route, best_route, node, order, covered] = &mut self.numbers;
+        // Each area has at least the entries that are lent, and no call overlaps two.
+        unsafe {
+            hemokatu_decode(
+                sheet.as_ptr(),
+                sheet.len(),
+                grow(real, size[0], f64::NAN),
+                size[0],
+                grow(penalised, size[1], -1.0),
+                size[1],
+                grow(came_from, size[2], 1),
+                size[2],
+                grow(route, size[3], usize::MAX),
+                size[3],
+                grow(best_route, size[4], 3),
+                size[4],
+                grow(key, size[5], f64::NEG_INFINITY),
+                size[5],
+                grow(cost, size[6], f64::NAN),
+                size[6],
+                grow(node, size[7], usize::MAX),
+                size[7],
+                grow(order, size[8], usize::MAX),
+                size[8],
+                grow(covered, size[9], 0),
+                size[9],
+                grow(coverage, size[10], 1e300),
+                size[10],
+                self.ids.as_mut_ptr(),
+                size[11],
+                self.lengths.as_mut_ptr(),
+                size[12],
+            )
+        }
+    }
+
+    fn outcome(&self, a: &Answered, size: &[usize; 13]) -> Result<Outcome, String> {
+        let floats = [
+            a.length_m,
+            a.start_offset,
+            a.start_fraction,
+            a.end_offset,
+            a.end_fraction,
+            a.coverage,
+        ];
+        if a.number != 0 {
+            let silent = floats.iter().all(|f| f.to_bits() == 0) && a.count == 0 && a.primary == 0;
+            return match silent {
+                true => Ok(Outcome::refused(a.number, a.a, a.b)),
+                false => Err(format!("refusal {} carries more than its places", a.number)),
+            };
+        }
+        if a.count > size[11].min(size[12]) || (a.a, a.b) != (0, 0) {
+            return Err(format!(
+                "a match of {} roads with places {} {}",
+                a.count, a.a, a.b
+            ));
+        }
+        let lengths = &self.lengths[..a.count];
+        Ok(Outcome {
+            answer: Answer::Matched(Match {
+                count: a.count,
+                length: floats[0].to_bits(),
+                start_offset: floats[1].to_bits(),
+                start_fraction: floats[2].to_bits(),
+                end_offset: floats[3].to_bits(),
+                end_fraction: floats[4].to_bits(),
+                primary: a.primary,
+                coverage: floats[5].to_bits(),
+            }),
+            ids: self.ids[..a.count].to_vec(),
+            lengths: lengths.iter().map(|l| l.to_bits()).collect(),
+        })
+    }
+
+    /// Whether this id and length stand in the lists from an entry on, and the old ones behind the lists.
+    fn rest_is(&self, from: usize, id: u64, length: f64, size: &[usize; 13]) -> Result<(), String> {
+        let same = |a: f64, b: f64| a.to_bits() == b.to_bits();
+        let (ids, behind) = self.ids.split_at(size[11]);
+        let (lengths, behind_lengths) = self.lengths.split_at(size[12]);
+        let ids_good = ids[from..].iter().all(|x| *x == id) && behind.iter().all(|x| *x == ID);
+        let lengths_good = lengths[from..].iter().all(|x| same(*x, length))
+            && behind_lengths.iter().all(|x| same(*x, LENGTH));
+        match (ids_good, lengths_good) {
+            (true, true) => Ok(()),
+            (false, _) => Err(format!("ids from entry {from}: {ids:x?}")),
+            _ => Err(format!("lengths from entry {from}: {lengths:?}")),
+        }
+    }
+}

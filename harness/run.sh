@@ -1,0 +1,17 @@
+#!/bin/sh
+# The whole comparison: run.sh N [SEED] compares N well-formed sheets, N damaged ones, N/50 of full size and N/10 pairs for demand 3.
+# Needs rt and cargo. HEMOKATU_LIB may name a folder with libhemokatu.a; else rt builds it.
+set -e
+count=${1:?run.sh N [SEED]}
+seed=${2:-1}
+cd "$(dirname "$0")"
+./same.sh
+[ -n "$HEMOKATU_LIB" ] || (cd .. && rt staticlib hemokatu)
+cargo build --release --offline --quiet
+programs=${CARGO_TARGET_DIR:-target}/release
+"$programs/stored" ../crates/replay/data/cases.bin
+"$programs/compare" sizes
+"$programs/compare" well-formed "$count" "$seed"
+"$programs/compare" damaged "$count" "$seed"
+"$programs/compare" full $((count / 50)) "$seed"
+"$programs/compare" pairs $((count / 10)) "$seed"
