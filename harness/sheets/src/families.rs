@@ -6,6 +6,7 @@ mod dense;
 mod edges;
 mod full;
 mod general;
+mod grid;
 mod kept;
 mod limits;
 mod outright;

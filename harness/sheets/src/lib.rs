@@ -2,8 +2,10 @@
 
 pub mod areas;
 pub mod build;
+mod bytes;
 pub mod damage;
 pub mod families;
+mod fields;
 pub mod random;
 pub mod sheet;
 pub mod words;

@@ -1,6 +1,7 @@
 //! Sheets whose counts are near their limits: 16 points, 1,024 nodes, 4,096 roads, 1,024 rows, 1,024 goal rows.
 
-use super::streets::{along_a_walk, roads, spots, Plan};
+use super::grid::{roads, spots};
+use super::streets::{along_a_walk, Plan};
 use super::{chain, crowd, dense};
 use crate::build::{add_goals, shuffled};
 use crate::random::Random;

@@ -6,7 +6,7 @@ use crate::{Point, Road, Row, Sheet};
 
 pub fn general(r: &mut Random) -> Sheet {
     let kind = if r.chance(25) { 2 } else { 1 };
-    let nodes = 1 + r.below(6);
+    let nodes = if r.chance(3) { 0 } else { 1 + r.below(6) };
     let points = match kind {
         2 => 2,
         _ => r.of(&[0, 1, 2, 2, 2, 3, 3, 4]),
@@ -54,7 +54,12 @@ fn roads(r: &mut Random, nodes: usize) -> Vec<Road> {
     let zeros = r.chance(30);
     let ring = r.chance(60);
     let mut roads = vec![];
-    for i in 0..1 + r.below(2 * nodes) {
+    let count = if nodes == 0 || r.chance(2) {
+        0
+    } else {
+        1 + r.below(2 * nodes)
+    };
+    for i in 0..count {
         let along = ring && r.chance(60);
         let (source, target) = (r.below(nodes), r.below(nodes));
         let length = r.metres(120);
