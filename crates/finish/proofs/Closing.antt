@@ -34,7 +34,7 @@ use Rattle.courses.specs.declared.Primary.the-variants as P
 use Rattle.search.specs.Answers.{Numbers}
 use Rattle.courses.specs.Left.{Within, primary-of, coverages-at}
 use Rattle.lines.specs.declared.Course as code
-use Rattle.lines.specs.Legs.{segment-as, road-numbers, Stands}
+use Rattle.lines.specs.Legs.{segment-as, road-numbers, Runs, Stands}
 use Rattle.ends.specs.declared.Final.{Final}
 use Rattle.ends.specs.Whole.{Finished}
 use Rattle.references.specs.declared.Outcome as references
@@ -42,7 +42,6 @@ use Rattle.references.specs.declared.Outcome.the-variants as O
 use Rattle.references.specs.Reference.{Comes}
 use Rattle.answers.specs.declared.Answer.the-variants as A
 use Rattle.answers.specs.Room.{lists, answer-of, decoded}
-use Rattle.finish.specs.Ending.{Runs}
 
 -- ---- a refusal
 
@@ -143,9 +142,6 @@ module _ (t : Sheet) (c : Counts) (o : Outcome) (ids covered : List ℕ) (covera
   pub path-fits : x .written + 4 * c .n ≤ most-entries (c .p) (c .n)
   path-fits = room (c .p) (c .n) (x .written) (stands .few-roads)
 
-  runs : Runs k ids x
-  runs = record { roads = stands .roads; total = stands .total; first = stands .first; last = stands .last }
-
   module _ {p : Primary} (primary : primary-of t p ≡ primary-edge (coverages-at t (x .covered) covered coverage)) where
     -- the outcome, by the primary road
     by-primary : {q : Primary} → p ≡ q → o ≡ maybe (primary-of t q) (refused 10 0 (c .p - 1)) (matched k)
@@ -158,7 +154,7 @@ module _ (t : Sheet) (c : Counts) (o : Outcome) (ids covered : List ℕ) (covera
 
     pub one-covered : {road : ℕ} {metres : Float} → p ≡ P.Edge road metres → (k : Course) × Runs k ids x × (o ≡ matched k (primary-as t road metres))
     unfolding primary-of maybe
-    one-covered is = (k, runs, by-primary is)
+    one-covered is = (k, stands .runs, by-primary is)
 
   pub own-primary : {p : Primary} {road : ℕ} {metres : Float} → ((e : ℕ) → Numbers e (x .covered) covered → Within e p) → p ≡ P.Edge road metres → road < c .e
   own-primary within is = subst (Within (c .e)) is (within (c .e) (stands .below))

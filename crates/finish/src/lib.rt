@@ -21,8 +21,8 @@ ghost use Rattle.model.specs.Decode as decode;
 ghost use Rattle.model.specs.Call.{answered, most-entries};
 ghost use Rattle.answers.specs.Room.{lists, decoded};
 ghost use Rattle.search.specs.Answers.{Numbers};
+ghost use Rattle.lines.specs.Legs.{Runs};
 ghost use Rattle.references.specs.Reference.{Comes};
-ghost use Rattle.finish.specs.Ending.{Runs};
 
 // A refusal's answer: zeros in both lists.
 fn refuse(

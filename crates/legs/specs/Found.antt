@@ -40,7 +40,7 @@ leg-at t b = record { limits = b; leaving = λ v. keep (allows (b .class)) (leav
 unfoldable pub seek-at : Sheet → ℕ → Limits → Seek
 seek-at t slots b = seek-of (view t) (bounded-astar slots) (leg-at t b)
 
--- the roads of a point's candidates run between its n nodes
+-- the roads of a point's candidates run between the sheet's n nodes
 abbrev pub Inside : ℕ → Candidates → Type 0
 Inside n xs = (k : ℕ) → k < xs .count → (getD (xs .items) k no-candidate .road .source < n) × (getD (xs .items) k no-candidate .road .target < n)
 
@@ -60,7 +60,7 @@ sought-of roads (S.Best r) area = best (path-of roads r area)
 sought-of roads S.NoPath area = no-path
 sought-of roads S.HeapFull area = heap-full
 
--- the number of the next pair: the last one where the leg is decided
+-- the place of the next pair among n: past the last one where the leg is decided
 unfoldable pub place-after : Phase → ℕ → ℕ → ℕ
 place-after H.On t n = t + 1
 place-after H.Ended t n = n

@@ -75,7 +75,7 @@ pub fn try_pair(
     t
 }
 
-// The number of the next pair: the last one where the leg is decided.
+// The place of the next pair among n: past the last one where the leg is decided.
 fn next_place(phase: Phase, t: usize, n: usize) -> usize
     requires { ⌜ (t < n) × (n ≤ 100) ⌝ }
     ensures { λ r. ⌜ r ≡ place-after phase t n ⌝ }

@@ -83,11 +83,8 @@ module _ (s : List ℕ) (c : Counts) (slots : ℕ) where
       no-course,
       line-start s c slots,
       record {
-        roads = refl;
+        runs = record { roads = refl; total = refl; first = refl; last = refl };
         coverages = refl;
-        total = refl;
-        first = refl;
-        last = refl;
         few-roads = omega arith;
         few-coverages = omega arith;
         below = λ j h. absurd (omega arith);
@@ -135,22 +132,24 @@ module _ (s : List ℕ) (c : Counts) (slots : ℕ) where
 
         first-is : (b : Bool) → segment-as (cond b (w .segment) (x .course .first)) ≡ cond b (segment-of (leg-from s c (x .next)) r) (k .first-segment)
         first-is true = segment-is
-        first-is false = stands .first
+        first-is false = stands .runs .first
 
         stands-on : Stands (sheet-of s c) (c .e) ((x .next + 1) * (c .n + 1)) (extended (x .next) k (leg-from s c (x .next)) r) ids₁ covered₁ coverage₁ (extended-by (x .next) (x .course) w)
         unfolding extended cover-all segment-of
         stands-on =
             let one = rows-more (x .next) row in
             record {
-              roads =
-                  split (w .written) (walks .few)
-                  ∙ ap (λ (l : List ℕ). take (x .course .written) ids ++ l) (walks .roads)
-                  ∙ ap (λ (l : List ℕ). l ++ fresh (last l) (road-numbers (roads-of r))) (stands .roads)
-                  ∙ sym (append-numbers (k .roads) (roads-of r));
+              runs = record {
+                roads =
+                    split (w .written) (walks .few)
+                    ∙ ap (λ (l : List ℕ). take (x .course .written) ids ++ l) (walks .roads)
+                    ∙ ap (λ (l : List ℕ). l ++ fresh (last l) (road-numbers (roads-of r))) (stands .runs .roads)
+                    ∙ sym (append-numbers (k .roads) (roads-of r));
+                total = ap (λ (y : Float). y ⊕ w .segment .«length_m») (stands .runs .total) ∙ ap (λ (y : decode.Segment). k .total ⊕ y .length-m) segment-is;
+                first = first-is (eqb (x .next) 0);
+                last = segment-is;
+              };
               coverages = walks .coverages ∙ ap (λ ks. cover-all true ks (r .coverages)) (stands .coverages);
-              total = ap (λ (y : Float). y ⊕ w .segment .«length_m») (stands .total) ∙ ap (λ (y : decode.Segment). k .total ⊕ y .length-m) segment-is;
-              first = first-is (eqb (x .next) 0);
-              last = segment-is;
               few-roads = (let a = stands .few-roads in let b = walks .few in omega arith);
               few-coverages = (let a = stands .few-coverages in let b = walks .most in omega arith);
               below = walks .below;
@@ -194,11 +193,8 @@ module _ (s : List ℕ) (c : Counts) (slots : ℕ) where
 
   more-room : (few most : ℕ) → few ≤ most → {k : Course} {ids covered : List ℕ} {coverage : List Float} {x : code.Course} → Stands (sheet-of s c) (c .e) few k ids covered coverage x → Stands (sheet-of s c) (c .e) most k ids covered coverage x
   more-room few most h f = record {
-    roads = f .roads;
+    runs = f .runs;
     coverages = f .coverages;
-    total = f .total;
-    first = f .first;
-    last = f .last;
     few-roads = (let a = f .few-roads in omega arith);
     few-coverages = (let a = f .few-coverages in omega arith);
     below = f .below;
@@ -225,11 +221,13 @@ module _ (s : List ℕ) (c : Counts) (slots : ℕ) where
     alone-stands r w walks =
         let all : row ≤ c .p * row = subst (λ (p : ℕ). row ≤ p * row) (sym two) (omega arith) in
         record {
-          roads = walks .roads ∙ sym (skip-none (road-numbers (roads-of r)));
+          runs = record {
+            roads = walks .roads ∙ sym (skip-none (road-numbers (roads-of r)));
+            total = ap (λ (y : decode.Segment). y .length-m) (walks .segment);
+            first = walks .segment;
+            last = walks .segment;
+          };
           coverages = walks .coverages;
-          total = ap (λ (y : decode.Segment). y .length-m) (walks .segment);
-          first = walks .segment;
-          last = walks .segment;
           few-roads = (let b = walks .few in omega arith);
           few-coverages = (let b = walks .most in omega arith);
           below = walks .below;

@@ -71,13 +71,17 @@ Leaves t c summed dnp o ks n0 so out covered coverage E.HeapFull = so ≡ heap-f
 
 -- ---- all legs
 
--- The course k, in the lent areas: the numbers of its roads in the front of `ids`, and its coverages, at most `most` of each.
-pub record Stands (t : Sheet) (e most : ℕ) (k : Course) (ids covered : List ℕ) (coverage : List Float) (x : code.Course) : Type 0 where
+-- the course k, with the numbers of its roads in the front of `ids`
+pub record Runs (k : Course) (ids : List ℕ) (x : code.Course) : Type 0 where
   pub roads : take (x .written) ids ≡ road-numbers (k .roads)
-  pub coverages : coverages-at t (x .covered) covered coverage ≡ k .coverages
   pub total : x .total ≡ k .total
   pub first : segment-as (x .first) ≡ k .first-segment
   pub last : segment-as (x .last) ≡ k .last-segment
+
+-- The course k, in the lent areas: its roads and its coverages, at most `most` of each.
+pub record Stands (t : Sheet) (e most : ℕ) (k : Course) (ids covered : List ℕ) (coverage : List Float) (x : code.Course) : Type 0 where
+  pub runs : Runs k ids x
+  pub coverages : coverages-at t (x .covered) covered coverage ≡ k .coverages
   pub few-roads : x .written ≤ most
   pub few-coverages : x .covered ≤ most
   pub below : Numbers e (x .covered) covered
