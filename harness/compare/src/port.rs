@@ -126,6 +126,11 @@ impl Port {
         Ok(outcome)
     }
 
+    /// The call alone: the number of its answer.
+    pub fn number(&mut self, sheet: &[u8], areas: &Areas) -> usize {
+        self.decode(sheet, &areas.0).number
+    }
+
     fn decode(&mut self, sheet: &[u8], size: &[usize; 13]) -> Answered {
         let [real, penalised, key, cost, coverage] = &mut self.floats;
         let [came_from, route, best_route, node, order, covered] = &mut self.numbers;
@@ -156,9 +161,9 @@ impl Port {
                 size[9],
                 grow(coverage, size[10], 1e300),
                 size[10],
-                self.ids.as_mut_ptr(),
+                grow(&mut self.ids, size[11], ID),
                 size[11],
-                self.lengths.as_mut_ptr(),
+                grow(&mut self.lengths, size[12], LENGTH),
                 size[12],
             )
         }

@@ -13,20 +13,41 @@ use openlr_decoder::spatial::SpatialIndex;
 use petgraph::graph::NodeIndex;
 use sheets::{Areas, Settings, Sheet};
 
+/// The original's network, index and settings for a sheet.
+pub struct Original {
+    network: RoadNetwork,
+    spatial: SpatialIndex,
+    config: DecoderConfig,
+}
+
+impl Original {
+    /// Lends the sheet to the stand-ins, which answer from the one lent last.
+    pub fn of(sheet: &Sheet) -> Original {
+        lend(sheet);
+        Original {
+            network: network(sheet),
+            spatial: SpatialIndex::of_rows(),
+            config: config(&sheet.settings),
+        }
+    }
+
+    pub fn decoder(&self) -> Decoder<'_> {
+        Decoder::new(&self.network, &self.spatial).with_config(self.config.clone())
+    }
+}
+
 /// What the original answers with a heap that grows, and the searches it made.
 pub struct Decoded {
-    outcome: Outcome,
+    pub outcome: Outcome,
     pub searches: Vec<Search>,
 }
 
 impl Decoded {
     pub fn of(sheet: &Sheet) -> Decoded {
-        lend(sheet);
-        let network = network(sheet);
-        let spatial = SpatialIndex::of_rows();
-        let decoder = Decoder::new(&network, &spatial).with_config(config(&sheet.settings));
+        let original = Original::of(sheet);
+        lend_reference(sheet, 1);
         counted_std::take_searches();
-        let result = decoder.decode("");
+        let result = original.decoder().decode("");
         let searches = counted_std::take_searches();
         let outcome = match result {
             Ok(path) => matched(path),
@@ -57,9 +78,13 @@ pub fn call(bytes: &[u8], areas: &Areas) -> Outcome {
     }
 }
 
-/// Lends the reference and everything measured to the stand-ins.
+/// Lends the reference for so many calls.
+pub fn lend_reference(sheet: &Sheet, calls: usize) {
+    openlr::lend((0..calls).map(|_| reference(sheet)).collect());
+}
+
+/// Lends everything measured to the stand-ins.
 fn lend(sheet: &Sheet) {
-    openlr::lend(reference(sheet));
     let row = |r: &sheets::Row| measured::Row {
         road: r.road,
         distance: r.distance,

@@ -6,4 +6,4 @@ pub mod cases;
 pub mod judge;
 
 pub use answer::{Answer, Match, Outcome};
-pub use call::{call, Decoded};
+pub use call::{call, lend_reference, Decoded, Original};

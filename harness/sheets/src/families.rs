@@ -56,3 +56,13 @@ pub fn small(r: &mut Random) -> (&'static str, Sheet) {
 pub fn full_size(r: &mut Random) -> (&'static str, Sheet) {
     ("full", full::full(r))
 }
+
+/// About as large as what an editor has at his desk.
+pub fn desk(r: &mut Random) -> Sheet {
+    streets::desk(r)
+}
+
+/// Searches over all of a full-size sheet.
+pub fn heavy(r: &mut Random) -> Sheet {
+    full::heavy(r)
+}

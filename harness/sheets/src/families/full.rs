@@ -49,6 +49,25 @@ fn town(r: &mut Random) -> Sheet {
     s
 }
 
+/// A large grid where every candidate scores alike and no distance to a goal is known, so that nearly every pair of a leg is searched over the whole network.
+pub fn heavy(r: &mut Random) -> Sheet {
+    let mut s = town(r);
+    let set = &mut s.settings;
+    set.greatest_bearing_difference = 180.0;
+    for weight in [
+        &mut set.distance_weight,
+        &mut set.bearing_weight,
+        &mut set.frc_weight,
+        &mut set.fow_weight,
+    ] {
+        *weight = 0.0;
+    }
+    for (_, distances) in &mut s.goals {
+        distances.fill(0.0);
+    }
+    s
+}
+
 /// Few nodes and 4,096 roads.
 fn busy(r: &mut Random) -> Sheet {
     let mut s = dense::dense(r);

@@ -60,6 +60,25 @@ pub fn long_line(r: &mut Random) -> Sheet {
     )
 }
 
+/// A grid of 196 nodes and up to 6 points.
+pub fn desk(r: &mut Random) -> Sheet {
+    let points = 2 + r.below(5);
+    let steps = points + r.below(25);
+    let near = r.of(&[10, 25, 60]);
+    streets(
+        r,
+        Plan {
+            width: 14,
+            height: 14,
+            steps,
+            points,
+            near,
+            elsewhere: 0,
+            tame: true,
+        },
+    )
+}
+
 /// Roads in a row, mostly without U-turns.
 fn walk(r: &mut Random, roads: &[Road], lists: &[Vec<usize>], steps: usize) -> Vec<usize> {
     let mut walk = vec![r.below(roads.len())];

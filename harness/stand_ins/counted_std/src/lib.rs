@@ -33,23 +33,35 @@ pub fn take_searches() -> Vec<Search> {
     SEARCHES.with(|s| s.take())
 }
 
-/// The standard heap. A search makes one heap, so a new heap is a new search.
-pub struct BinaryHeap<T>(std::collections::BinaryHeap<T>);
+/// The standard heap. A search makes one heap, so a heap that is dropped is a search that ended.
+pub struct BinaryHeap<T> {
+    heap: std::collections::BinaryHeap<T>,
+    entries: usize,
+}
 
 impl<T: Ord> BinaryHeap<T> {
     #[allow(clippy::new_without_default)]
     pub fn new() -> Self {
-        let leg = LEG.with(|l| l.get());
-        SEARCHES.with(|s| s.borrow_mut().push(Search { leg, entries: 0 }));
-        BinaryHeap(std::collections::BinaryHeap::new())
+        BinaryHeap {
+            heap: std::collections::BinaryHeap::new(),
+            entries: 0,
+        }
     }
 
     pub fn push(&mut self, entry: T) {
-        SEARCHES.with(|s| s.borrow_mut().last_mut().unwrap().entries += 1);
-        self.0.push(entry);
+        self.entries += 1;
+        self.heap.push(entry);
     }
 
     pub fn pop(&mut self) -> Option<T> {
-        self.0.pop()
+        self.heap.pop()
+    }
+}
+
+impl<T> Drop for BinaryHeap<T> {
+    fn drop(&mut self) {
+        let leg = LEG.with(|l| l.get());
+        let entries = self.entries;
+        SEARCHES.with(|s| s.borrow_mut().push(Search { leg, entries }));
     }
 }

@@ -19,15 +19,37 @@ pub struct Row {
     pub length: f64,
 }
 
+/// The rows of a point, and for each road up to the last one with a row: its row, or one past the rows.
+struct Rows {
+    rows: Vec<Row>,
+    of_road: Vec<usize>,
+}
+
+impl Rows {
+    fn new(rows: Vec<Row>) -> Rows {
+        let roads = rows.iter().map(|row| row.road + 1).max().unwrap_or(0);
+        let mut of_road = vec![rows.len(); roads];
+        for (i, row) in rows.iter().enumerate() {
+            of_road[row.road] = i;
+        }
+        Rows { rows, of_road }
+    }
+
+    fn of(&self, road: usize) -> Option<Row> {
+        self.rows.get(*self.of_road.get(road)?).copied()
+    }
+}
+
 thread_local! {
     /// The rows of each point.
-    static ROWS: RefCell<Vec<Vec<Row>>> = const { RefCell::new(Vec::new()) };
+    static ROWS: RefCell<Vec<Rows>> = const { RefCell::new(Vec::new()) };
     /// The bearing of the row that was projected last.
     static BEARING: Cell<f64> = const { Cell::new(0.0) };
 }
 
 /// From now on the functions here answer from these.
 pub fn lend(rows: Vec<Vec<Row>>) {
+    let rows = rows.into_iter().map(Rows::new).collect();
     ROWS.with(|r| r.replace(rows));
 }
 
@@ -53,7 +75,7 @@ impl SpatialIndex {
             let points = r.borrow();
             let near = points
                 .iter()
-                .map(|rows| rows.iter().rev().map(envelope).collect());
+                .map(|point| point.rows.iter().rev().map(envelope).collect());
             near.collect()
         });
         SpatialIndex { near }
@@ -66,13 +88,7 @@ impl SpatialIndex {
 
 pub fn project_onto_line(point: Point<f64>, line: &LineString<f64>) -> Option<LineProjection> {
     let road = geo::road_of(line);
-    let row = ROWS.with(|r| {
-        let points = r.borrow();
-        points[number_of(point)]
-            .iter()
-            .find(|row| row.road == road)
-            .copied()
-    })?;
+    let row = ROWS.with(|r| r.borrow()[number_of(point)].of(road))?;
     BEARING.with(|b| b.set(row.bearing));
     Some(LineProjection {
         point,

@@ -105,14 +105,14 @@ impl Metres {
 }
 
 thread_local! {
-    static LENT: RefCell<Option<LocationReference>> = const { RefCell::new(None) };
+    static LENT: RefCell<Vec<LocationReference>> = const { RefCell::new(Vec::new()) };
 }
 
-/// What the next deserialisation yields.
-pub fn lend(reference: LocationReference) {
-    LENT.with(|l| l.replace(Some(reference)));
+/// What the next deserialisations yield, the last one first.
+pub fn lend(references: Vec<LocationReference>) {
+    LENT.with(|l| l.replace(references));
 }
 
 pub fn deserialize_base64_openlr(_base64: &str) -> Result<LocationReference, NothingLent> {
-    LENT.with(|l| l.take()).ok_or(NothingLent)
+    LENT.with(|l| l.borrow_mut().pop()).ok_or(NothingLent)
 }

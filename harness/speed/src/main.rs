@@ -1,0 +1,60 @@
+//! speed [SET [SHEETS]]: the port against the original Rust on the same sheets, in one process, alternating.
+//! speed once SET [SHEETS]: one call of each on every sheet, to count instructions by.
+//! SET: small, desk, full, heavy, refused; all without it.
+
+mod sets;
+mod timing;
+
+use sets::{Set, SETS};
+use timing::{once, timed, Spent};
+
+fn main() {
+    let args: Vec<String> = std::env::args().skip(1).collect();
+    let counting = args.first().is_some_and(|a| a == "once");
+    let args = &args[counting as usize..];
+    let count = args.get(1).map(|a| a.parse().expect("a number of sheets"));
+    if !counting {
+        println!("microseconds a call, mean over the set: best of the rounds, median");
+    }
+    for set in SETS {
+        if args.first().is_some_and(|name| name != set.name) {
+            continue;
+        }
+        let sheets = set.sheets(count);
+        if counting {
+            sheets.iter().for_each(once);
+            println!("{}: {} sheets", set.name, sheets.len());
+        } else {
+            print(set, &sheets.iter().map(timed).collect::<Vec<Spent>>());
+        }
+    }
+}
+
+/// The set's mean times and how many times faster the port is: by the means, and at least on any sheet.
+fn print(set: &Set, spent: &[Spent]) {
+    let mean = |time: fn(&Spent) -> f64| spent.iter().map(time).sum::<f64>() / spent.len() as f64;
+    let least = |ratio: fn(&Spent) -> f64| spent.iter().map(ratio).fold(f64::INFINITY, f64::min);
+    let original = [mean(|s| s.original.best), mean(|s| s.original.median)];
+    let decode = [mean(|s| s.decode().best), mean(|s| s.decode().median)];
+    let port = [mean(|s| s.port.best), mean(|s| s.port.median)];
+    let judge = [mean(|s| s.judge.best), mean(|s| s.judge.median)];
+    println!("{}, {} sheets", set.name, spent.len());
+    let line = |name: &str, time: [f64; 2]| println!("  {name} {:.2} {:.2}", time[0], time[1]);
+    line("original", original);
+    line("decode", decode);
+    line("judge", judge);
+    let faster = |name: &str, time: [f64; 2], least: f64| {
+        let [best, median] = [original[0] / time[0], original[1] / time[1]];
+        println!("  {name} is {best:.1} {median:.1} times faster, on no sheet under {least:.1}");
+    };
+    faster(
+        "decode",
+        decode,
+        least(|s| s.original.best / s.decode().best),
+    );
+    faster(
+        "decode with judge",
+        port,
+        least(|s| s.original.best / s.port.best),
+    );
+}
