@@ -1,2 +1,3 @@
 pub mod Marking
 pub mod Measuring
+pub mod Whole

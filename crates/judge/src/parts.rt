@@ -4,9 +4,11 @@ use crate::measures;
 use crate::need;
 use model::Verdict;
 ghost use mathlib.Core.Path.{_≡_};
+ghost use mathlib.Core.Bool.{true};
 ghost use Prim.Native.Nat.{_+_, _*_, _≤_};
 ghost use lib.ListN.{length};
 ghost use Rattle.model.specs.Layout.{goal-width};
+ghost use Rattle.model.specs.declared.Verdict.the-variants.{Good};
 ghost use Rattle.model.specs.Table.{check, records, _then_};
 ghost use Rattle.model.specs.Judge.{settings-table, point-table, road-table, row-table, distance-table, goal-table};
 ghost use Rattle.judge.specs.Parts.{table-of, width-of};
@@ -41,8 +43,8 @@ fn point(s: &[u8], at: usize) -> Verdict
     need::float(s, at, 0, most, v)
 }
 
-// A road, on a sheet of n nodes.
-fn road(s: &[u8], at: usize, n: usize) -> Verdict
+// A road field by field, on a sheet of n nodes.
+fn road_fields(s: &[u8], at: usize, n: usize) -> Verdict
     requires { ⌜ at + 32 ≤ length (now s) ⌝ }
     ensures { λ r. ⌜ r ≡ check (now (s .entry)) at (road-table n) ⌝ }
 {
@@ -55,8 +57,51 @@ fn road(s: &[u8], at: usize, n: usize) -> Verdict
     need::float(s, at, 8, fields::MOST, v)
 }
 
-// A measured row, on a sheet of e roads.
-fn row(s: &[u8], at: usize, e: usize) -> Verdict
+// Whether a road is good, with no branch between its fields. The access flag and the spare bytes are the upper part of one u64.
+fn good_road(s: &[u8], at: usize, n: usize) -> bool
+    requires { ⌜ at + 32 ≤ length (now s) ⌝ }
+    ensures { λ r. ⌜ (r ≡ true → Good ≡ check (now (s .entry)) at (road-table n)) ⌝ }
+{
+    let metres = fields::u64_at(s, at + 8);
+    let source = fields::count_at(s, at + 16);
+    let target = fields::count_at(s, at + 20);
+    let rest = fields::u64_at(s, at + 24);
+    let frc = s[at + 24];
+    let fow = s[at + 25];
+    if fields::MOST < metres {
+        return false;
+    }
+    if n <= source {
+        return false;
+    }
+    if n <= target {
+        return false;
+    }
+    if 0x2_0000 <= rest {
+        return false;
+    }
+    if 7 < frc {
+        return false;
+    }
+    if 7 < fow {
+        return false;
+    }
+    true
+}
+
+// A road, on a sheet of n nodes: its fields one by one only where one is bad.
+fn road(s: &[u8], at: usize, n: usize) -> Verdict
+    requires { ⌜ at + 32 ≤ length (now s) ⌝ }
+    ensures { λ r. ⌜ r ≡ check (now (s .entry)) at (road-table n) ⌝ }
+{
+    if good_road(s, at, n) {
+        return Verdict::Good;
+    }
+    road_fields(s, at, n)
+}
+
+// A measured row field by field, on a sheet of e roads.
+fn row_fields(s: &[u8], at: usize, e: usize) -> Verdict
     requires { ⌜ at + 40 ≤ length (now s) ⌝ }
     ensures { λ r. ⌜ r ≡ check (now (s .entry)) at (row-table e) ⌝ }
 {
@@ -66,6 +111,49 @@ fn row(s: &[u8], at: usize, e: usize) -> Verdict
     let v = need::float(s, at, 8, fields::MOST, v);
     let v = need::spare(s, at, 4, 4, v);
     need::number(s, at, 0, e, v)
+}
+
+// Whether a measured row is good, with no branch between its fields.
+fn good_row(s: &[u8], at: usize, e: usize) -> bool
+    requires { ⌜ at + 40 ≤ length (now s) ⌝ }
+    ensures { λ r. ⌜ (r ≡ true → Good ≡ check (now (s .entry)) at (row-table e)) ⌝ }
+{
+    let road = fields::count_at(s, at);
+    let spare = fields::count_at(s, at + 4);
+    let distance = fields::u64_at(s, at + 8);
+    let bearing = fields::u64_at(s, at + 16);
+    let along = fields::u64_at(s, at + 24);
+    let line = fields::u64_at(s, at + 32);
+    if e <= road {
+        return false;
+    }
+    if spare != 0 {
+        return false;
+    }
+    if BEARING < bearing {
+        return false;
+    }
+    if fields::MOST < distance {
+        return false;
+    }
+    if fields::MOST < along {
+        return false;
+    }
+    if fields::MOST < line {
+        return false;
+    }
+    true
+}
+
+// A measured row, on a sheet of e roads: its fields one by one only where one is bad.
+fn row(s: &[u8], at: usize, e: usize) -> Verdict
+    requires { ⌜ at + 40 ≤ length (now s) ⌝ }
+    ensures { λ r. ⌜ r ≡ check (now (s .entry)) at (row-table e) ⌝ }
+{
+    if good_row(s, at, e) {
+        return Verdict::Good;
+    }
+    row_fields(s, at, e)
 }
 
 // A goal row, on a sheet of n nodes.

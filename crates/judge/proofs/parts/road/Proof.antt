@@ -1,43 +1,18 @@
-use Rattle.model.specs.Table.{check-then, alike}
-use Rattle.model.specs.Judge.{road-table}
 use borrow.Author.Needs.{needs}
 use Rattle.judge.proofs.parts.road.Statement.{statement}
 use Rattle.judge.proofs.parts.road.Tie as tie
 
-spare-requires : tie.Need-spare-requires
-spare-requires c κs = search needs
-
-byte-requires : tie.Need-byte-requires
-byte-requires c κs = search needs
-
-byte-requires-2 : tie.Need-byte-requires-2
-byte-requires-2 c κs = search needs
-
-byte-requires-3 : tie.Need-byte-requires-3
-byte-requires-3 c κs = search needs
-
-number-requires : tie.Need-number-requires
-number-requires c κs = search needs
-
-number-requires-2 : tie.Need-number-requires-2
-number-requires-2 c κs = search needs
-
-float-requires : tie.Need-float-requires
-float-requires c κs = search needs
+good-road-requires : tie.Need-good-road-requires
+good-road-requires c κs = search needs
 
 returns : tie.Need-returns
-unfolding road-table check-then alike
-returns c = cc
+returns c = c .before .good-road .ensures (c .if1 .taken)
+
+road-fields-requires : tie.Need-road-fields-requires
+road-fields-requires c κs = search needs
+
+returns-2 : tie.Need-returns-2
+returns-2 c = search needs
 
 pub road-spec : {M : Type 1} → statement M
-road-spec =
-    tie.close
-    (tie.spec
-    spare-requires
-    byte-requires
-    byte-requires-2
-    byte-requires-3
-    number-requires
-    number-requires-2
-    float-requires
-    returns)
+road-spec = tie.close (tie.spec good-road-requires returns road-fields-requires returns-2)

@@ -1,39 +1,18 @@
-use Rattle.model.specs.Table.{check-then, alike}
-use Rattle.model.specs.Judge.{row-table}
 use borrow.Author.Needs.{needs}
 use Rattle.judge.proofs.parts.row.Statement.{statement}
 use Rattle.judge.proofs.parts.row.Tie as tie
 
-float-requires : tie.Need-float-requires
-float-requires c κs = search needs
-
-float-requires-2 : tie.Need-float-requires-2
-float-requires-2 c κs = search needs
-
-float-requires-3 : tie.Need-float-requires-3
-float-requires-3 c κs = search needs
-
-float-requires-4 : tie.Need-float-requires-4
-float-requires-4 c κs = search needs
-
-spare-requires : tie.Need-spare-requires
-spare-requires c κs = search needs
-
-number-requires : tie.Need-number-requires
-number-requires c κs = search needs
+good-row-requires : tie.Need-good-row-requires
+good-row-requires c κs = search needs
 
 returns : tie.Need-returns
-unfolding row-table check-then alike
-returns c = cc
+returns c = c .before .good-row .ensures (c .if1 .taken)
+
+row-fields-requires : tie.Need-row-fields-requires
+row-fields-requires c κs = search needs
+
+returns-2 : tie.Need-returns-2
+returns-2 c = search needs
 
 pub row-spec : {M : Type 1} → statement M
-row-spec =
-    tie.close
-    (tie.spec
-    float-requires
-    float-requires-2
-    float-requires-3
-    float-requires-4
-    spare-requires
-    number-requires
-    returns)
+row-spec = tie.close (tie.spec good-row-requires returns row-fields-requires returns-2)
