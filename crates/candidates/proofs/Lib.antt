@@ -5,6 +5,6 @@ pub mod Degrees
 pub mod Weighed
 pub mod SheetFacts
 pub mod Gathered
-pub mod Turns
+pub mod RankLaws
 pub mod Rules
 pub mod Pointwise

@@ -44,10 +44,8 @@ no-candidate = record {
   fraction = nan;
 }
 
--- The first `count` items are the candidates of point i of t, at most as many as the settings allow, each on a road of the sheet.
+-- The first `count` items are the first ten candidates of point i of t, each on a road of the sheet.
 pub record Found (t : Sheet) (c : Counts) (i : ℕ) (r : Candidates) : Type 0 where
-  pub are : take (r .count) (r .items) ≡ candidates-at t i
-  pub counted : length (candidates-at t i) ≡ r .count
-  pub few : r .count ≤ 64
-  pub most : r .count ≤ t .settings .«max_candidates»
+  pub are : take (r .count) (r .items) ≡ take 10 (candidates-at t i)
+  pub few : r .count ≤ 10
   pub items : (k : ℕ) → k < r .count → OnSheet t c (getD (r .items) k no-candidate)

@@ -1,4 +1,4 @@
-// What a measured row gives: a candidate, whether it passes, and which of two is better.
+// What a measured row gives: a candidate, and whether it passes.
 use crate::score;
 use model::Candidate;
 use model::Point;
@@ -9,7 +9,7 @@ use road_network::road_class;
 use road_network::spatial;
 ghost use mathlib.Core.Path.{_≡_};
 ghost use Prim.Native.Nat.{_≤_};
-ghost use Rattle.model.specs.Candidates.{candidate-of, passes, better};
+ghost use Rattle.model.specs.Candidates.{candidate-of, passes};
 
 // The candidate of a row w of the point p, on the road r that it names.
 pub fn candidate_of(c: Settings, p: Point, w: Row, r: Road) -> Candidate
@@ -47,13 +47,4 @@ pub fn passes(c: Settings, x: Candidate) -> bool
         return false;
     }
     true
-}
-
-// Whether a stands before b: by score, then by road number.
-pub fn better(a: Candidate, b: Candidate) -> bool
-    ensures { λ r. ⌜ r ≡ better a b ⌝ }
-{
-    let left = a.road;
-    let right = b.road;
-    a.score < b.score || (a.score == b.score && left.number < right.number)
 }

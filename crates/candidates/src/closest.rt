@@ -1,15 +1,16 @@
 // Whether every point has a candidate, and the nearest one of all is near enough.
-use crate::find;
-use crate::find::Candidates;
+use crate::rank;
+use crate::rank::Ranks;
 use model::Counts;
 use sheet::points;
 ghost use mathlib.Core.Path.{_≡_};
-ghost use Prim.Native.Nat.{_≤_};
-ghost use lib.ListN.{take};
+ghost use Prim.Native.Nat.{_<_};
 ghost use Rattle.model.specs.Numbers.{infinity};
 ghost use Rattle.model.specs.Judge.{WellFormed};
 ghost use Rattle.model.specs.Sheet.{sheet-of};
 ghost use Rattle.model.specs.Candidates.{nearest};
+ghost use Rattle.candidates.specs.Found.{candidates-at};
+ghost use Rattle.candidates.specs.Ranking.{Ranked};
 ghost use Rattle.candidates.specs.Points.{points-of};
 
 // The points are fine, or refusal 9 names this one.
@@ -25,18 +26,20 @@ fn infinity() -> f64
     f64::from_bits(0x7ff0_0000_0000_0000)
 }
 
-// The least distance of a point's candidates; infinity where there is none.
-pub fn nearest(x: Candidates) -> f64
-    requires { ⌜ x .count ≤ 64 ⌝ }
-    ensures { λ d. ⌜ d ≡ nearest (take (x .count) (x .items)) ⌝ }
+// The least distance of the candidates of point i, whose rows are ranked; infinity where there is none.
+pub fn nearest(s: &[u8], c: Counts, i: usize, x: Ranks) -> f64
+    requires { ⌜ WellFormed (now s) c × (i < c .p) × Ranked (now s) c i x ⌝ }
+    ensures { λ d. ⌜ d ≡ nearest (candidates-at (sheet-of (now (s .entry)) c) i) ⌝ }
 {
     let count = x.count;
+    let first = points::first_row(s, c, i);
     let mut least = infinity();
     let mut k = 0;
     while k < count {
         let y = x.items[k];
-        if y.distance < least {
-            least = y.distance;
+        let w = points::row(s, c, first + y.row);
+        if w.distance < least {
+            least = w.distance;
         }
         k += 1;
     }
@@ -53,11 +56,11 @@ pub fn require_candidates(s: &[u8], c: Counts) -> Points
     let mut at = 0;
     let mut i = 0;
     while i < c.p {
-        let x = find::find_candidates(s, c, set, i);
+        let x = rank::rank_rows(s, c, set, i);
         if x.count == 0 {
             return Points::NoCandidate(i);
         }
-        let d = nearest(x);
+        let d = nearest(s, c, i, x);
         if d < least {
             least = d;
             at = i;

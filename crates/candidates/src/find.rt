@@ -1,24 +1,19 @@
-// The candidates of a point: those of its rows that pass, sorted and cut.
-use crate::candidate;
+// The candidates of a point that a leg may try.
+use crate::rank;
 use model::Candidate;
 use model::Counts;
-use model::Point;
 use model::Road;
 use model::Settings;
 use sheet::points;
-use sheet::roads;
+ghost use Prim.Native.Nat.{_<_};
 ghost use mathlib.Core.Path.{_≡_};
-ghost use Prim.Native.Nat.{_≤_, _<_};
-ghost use Rattle.model.specs.Layout.{rows-bytes};
 ghost use Rattle.model.specs.Judge.{WellFormed};
-ghost use Rattle.model.specs.Sheet.{row-of, sheet-of};
-ghost use Rattle.model.specs.View.{spot-of};
-ghost use Rattle.model.specs.Candidates.{candidate-of};
+ghost use Rattle.model.specs.Sheet.{sheet-of};
 ghost use Rattle.candidates.specs.Found.{Found};
 
-// The first `count` of the items, best first.
+// The first `count` of the items, best first: at most the ten that a leg tries.
 pub struct Candidates {
-    pub items: [Candidate; 64],
+    pub items: [Candidate; 10],
     pub count: usize,
 }
 
@@ -45,49 +40,22 @@ fn blank() -> Candidate {
     }
 }
 
-// The candidate of row k of the sheet, measured for the point p.
-fn measured(s: &[u8], c: Counts, set: Settings, p: Point, k: usize) -> Candidate
-    requires { ⌜ WellFormed (now s) c × (k < c .m) × (p .frc ≤ 7) ⌝ }
-    ensures { λ x. ⌜ x ≡ candidate-of set p (spot-of (sheet-of (now (s .entry)) c) (row-of (rows-bytes (now (s .entry)) c) k)) ⌝ }
-{
-    let w = points::row(s, c, k);
-    let road = w.road;
-    let r = roads::road(s, c, road);
-    candidate::candidate_of(set, p, w, r)
-}
-
-// The candidates of point i, with the sheet's settings: sorted by insertion from the back, then cut.
+// The best candidates of point i, with the sheet's settings, each made of its row.
 pub fn find_candidates(s: &[u8], c: Counts, set: Settings, i: usize) -> Candidates
     requires { ⌜ WellFormed (now s) c × (i < c .p) × (set ≡ sheet-of (now s) c .settings) ⌝ }
     ensures { λ r. ⌜ Found (sheet-of (now (s .entry)) c) c i r ⌝ }
 {
     let p = points::point(s, c, i);
-    let rows = points::row_count(s, c, i);
     let first = points::first_row(s, c, i);
+    let ranks = rank::rank_rows(s, c, set, i);
+    let count = if ranks.count < 10 { ranks.count } else { 10 };
     let none = blank();
-    let mut items = [none; 64];
-    let mut count = 0;
+    let mut items = [none; 10];
     let mut k = 0;
-    while k < rows {
-        let x = measured(s, c, set, p, first + k);
-        if candidate::passes(set, x) {
-            let mut j = count;
-            'shift: while 0 < j {
-                let y = items[j - 1];
-                if !candidate::better(x, y) {
-                    break 'shift;
-                }
-                items[j] = y;
-                j -= 1;
-            }
-            items[j] = x;
-            count += 1;
-        }
+    while k < count {
+        let r = ranks.items[k];
+        items[k] = rank::measured(s, c, set, p, first + r.row);
         k += 1;
-    }
-    let most = set.max_candidates as usize;
-    if most < count {
-        count = most;
     }
     Candidates { items, count }
 }

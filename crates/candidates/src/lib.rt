@@ -2,4 +2,5 @@
 pub mod candidate;
 pub mod closest;
 pub mod find;
+pub mod rank;
 pub mod score;

@@ -14,7 +14,7 @@ use Rattle.model.specs.Legs.{Coverage, terminal, whole}
 use Rattle.rules.specs.declared.Part.{Part}
 use Rattle.rules.specs.declared.Route.{Route}
 use Rattle.rules.specs.Code.{part-of}
-use Rattle.pairs.proofs.PairLaws.{getD-map}
+use Rattle.model.proofs.Members.{getD-map}
 use Rattle.courses.specs.declared.Cover.{Cover}
 use Rattle.courses.specs.Left.{covers, size-of, Known, numbers, numbers-of, coverage-of}
 

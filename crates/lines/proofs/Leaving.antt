@@ -6,6 +6,7 @@ use mathlib.Core.Option.{Option}
 use mathlib.Core.List.{List}
 use native.Mathlib.Omega.{arith}
 use lib.ListN.{take}
+use lib.Seq.{take-take}
 use lib.Ieee.{Float}
 use Rattle.model.specs.declared.Counts.{Counts}
 use Rattle.model.specs.declared.Point.{Point}
@@ -40,11 +41,11 @@ limits-are s c i h p is = ap (limits-of (sheet-of s c .settings)) (is ∙ ap (λ
 pub inside : {t : Sheet} {c : Counts} {i : ℕ} {r : Candidates} → Found t c i r → Inside (c .n) r
 inside f = λ k h. (f .items k h .source, f .items k h .target)
 
--- what a leg finds, with its limits and candidates at hand
-pub sought-is : (t : Sheet) (slots i : ℕ) {b : Limits} {xs ys : List Candidate} → b ≡ leg-limits t i → xs ≡ candidates-at t i → ys ≡ candidates-at t (i + 1)
+-- what a leg finds, with its limits and the candidates that it tries at hand
+pub sought-is : (t : Sheet) (slots i : ℕ) {b : Limits} {xs ys : List Candidate} → b ≡ leg-limits t i → xs ≡ take 10 (candidates-at t i) → ys ≡ take 10 (candidates-at t (i + 1))
     → find-best-path b (seek-at t slots b) xs ys ≡ leg-sought t slots i
-unfolding leg-sought
-sought-is t slots i limits starts ends = rw (limits, starts, ends)
+unfolding leg-sought find-best-path
+sought-is t slots i limits starts ends = rw (limits, starts, ends, take-take 10 10 (candidates-at t i) (omega arith), take-take 10 10 (candidates-at t (i + 1)) (omega arith))
 
 pub known-route : {t : Sheet} {c : Counts} {x : legs.Sought} {area : List ℕ} {r : Route} → x ≡ S.Best r → KnownAs t c x area → Known t c r area
 unfolding KnownAs

@@ -193,6 +193,28 @@ module _ {A B : Type 0} where
   map-eq f g [] h = refl
   map-eq f g (x ∷ xs) h = ap₂ (λ (y : B) (ys : List B). y ∷ ys) (h x here) (map-eq f g xs (λ y m. h y (List·Memᴰ·tail m)))
 
+  pub getD-map : (f : A → B) (xs : List A) (n : ℕ) (d : A) (e : B) → n < length xs → getD (map f xs) n e ≡ f (getD xs n d)
+  getD-map f [] n d e h = absurd (not-suc-le-zero h)
+  getD-map f (x ∷ xs) zero d e h = refl
+  getD-map f (x ∷ xs) (suc n) d e h = getD-map f xs n d e (le-of-suc-le-suc h)
+
+  pub map-take : (f : A → B) (n : ℕ) (xs : List A) → map f (take n xs) ≡ take n (map f xs)
+  map-take f zero xs = refl
+  map-take f (suc n) [] = refl
+  map-take f (suc n) (x ∷ xs) = ap (λ (ys : List B). f x ∷ ys) (map-take f n xs)
+
+  -- insertion behind a map that keeps the order
+  pub map-insert : (f : A → B) (below : A → A → Bool) (above : B → B → Bool) (x : A) (ys : List A) → ((y : A) → In y ys → below x y ≡ above (f x) (f y)) → map f (insert below x ys) ≡ insert above (f x) (map f ys)
+  unfolding insert
+  map-insert f below above x [] e = refl
+  map-insert f below above x (y ∷ ys) e =
+      go (below x y) (map-insert f below above x ys (λ z m. e z (List·Memᴰ·tail m)))
+      ∙ ap (λ (b : Bool). cond b (f x ∷ f y ∷ map f ys) (f y ∷ insert above (f x) (map f ys))) (e y here)
+    where
+      go : (b : Bool) → map f (insert below x ys) ≡ insert above (f x) (map f ys) → map f (cond b (x ∷ y ∷ ys) (y ∷ insert below x ys)) ≡ cond b (f x ∷ f y ∷ map f ys) (f y ∷ insert above (f x) (map f ys))
+      go true ih = refl
+      go false ih = ap (λ (zs : List B). f y ∷ zs) ih
+
   -- a filter behind a map is one before it
   pub keep-map : (f : A → B) (p : B → Bool) (xs : List A) → keep p (map f xs) ≡ map f (keep (λ x. p (f x)) xs)
   unfolding keep

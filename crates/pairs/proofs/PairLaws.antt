@@ -3,24 +3,20 @@ use mathlib.Core.Path.{_≡_, refl, sym, ap, _∙_}
 use mathlib.Core.Logic.{⊎-elim}
 use mathlib.Core.List.{List, [], _∷_, _++_, map}
 use Prim.Native.Nat.{ℕ, zero, suc, _+_, _-_, _*_, _/_, _%_, _<_, _≤_}
-use native.Mathlib.Nat.{suc-mul, mul-zero, zero-mul, div-eq-of-lt, mod-eq-of-lt, mod-eq-sub-mod, div-eq-sub-div, not-suc-le-zero, le-of-suc-le-suc, div-lt-iff-lt-mul, mod-lt, mul-le-mul}
+use native.Mathlib.Nat.{suc-mul, mul-zero, zero-mul, div-eq-of-lt, mod-eq-of-lt, mod-eq-sub-mod, div-eq-sub-div, div-lt-iff-lt-mul, mod-lt, mul-le-mul}
 use native.Mathlib.Numerals.{add-one}
 use native.Mathlib.Omega.{arith}
 use lib.ListN.{length, getD, take, length-append, length-take, length-map, List·getD-append}
 use lib.Seq.{take-all, take-take, getD-append-add, take-suc, length-take-le, getD-take}
 use Rattle.model.specs.declared.Candidate.{Candidate}
 use Rattle.model.specs.Lists.{fold}
+use Rattle.model.proofs.Members.{getD-map}
 use Rattle.model.specs.Legs.{Pair, pair, pairs, leg-pairs}
 use Rattle.bounds.proofs.Choices.{below-or-not}
 use Rattle.candidates.specs.Found.{no-candidate}
 use Rattle.pairs.specs.Sorted.{tried, pair-number}
 
 -- ---- lists
-
-pub getD-map : {A B : Type 0} (f : A → B) (l : List A) (n : ℕ) (d : A) (e : B) → n < length l → getD (map f l) n e ≡ f (getD l n d)
-getD-map f [] n d e h = absurd (not-suc-le-zero h)
-getD-map f (x ∷ l) zero d e h = refl
-getD-map f (x ∷ l) (suc n) d e h = getD-map f l n d e (le-of-suc-le-suc h)
 
 module _ {A B : Type 0} (f : B → A → B) where
   pub fold-append : (b : B) (l m : List A) → fold f b (l ++ m) ≡ fold f (fold f b l) m

@@ -9,11 +9,12 @@ use lib.Seq.{getD-set-same, getD-set-other, getD-take, length-take-le}
 use lib.Ieee.{Float, nan}
 use Rattle.model.specs.declared.Candidate.{Candidate}
 use Rattle.model.specs.Lists.{sort}
+use Rattle.model.proofs.Members.{getD-map}
 use Rattle.model.specs.Legs.{Pair, pair, leg-pairs, by-sum}
 use Rattle.candidates.specs.Found.{no-candidate}
 use Rattle.pairs.specs.Sorted.{tried, pair-number, lower-sum, sorted, Under, Summed, Sorted}
 use Rattle.bounds.proofs.Choices.{below-or-not}
-use Rattle.pairs.proofs.PairLaws.{getD-map, hundred, leg-pair-at, leg-pairs-long, all-pairs}
+use Rattle.pairs.proofs.PairLaws.{hundred, leg-pair-at, leg-pairs-long, all-pairs}
 use Rattle.pairs.proofs.Numbers.{under-at, sorted-under, sorted-is}
 
 module _ (starts ends : List Candidate) (n : ℕ) where

@@ -14,7 +14,7 @@ pub fn tried(n: usize) -> usize
 }
 
 // The sum of each pair of the first m starts and n ends.
-fn fill_sums(sums: &mut [f64], starts: [Candidate; 64], m: usize, ends: [Candidate; 64], n: usize)
+fn fill_sums(sums: &mut [f64], starts: [Candidate; 10], m: usize, ends: [Candidate; 10], n: usize)
     requires { ⌜ (m ≤ 10) × (n ≤ 10) × (m * n ≤ length (now sums)) ⌝ }
     ensures { λ _. ⌜ Summed (now (sums .exit)) starts ends n (m * n) ⌝ }
 {
@@ -76,9 +76,9 @@ fn sort_numbers(sums: &[f64], numbers: &mut [usize], count: usize)
 
 // The numbers of a leg's pairs in the order of their sums, equal sums in the order of the pairs.
 pub fn sorted_pairs(
-    starts: [Candidate; 64],
+    starts: [Candidate; 10],
     start_count: usize,
-    ends: [Candidate; 64],
+    ends: [Candidate; 10],
     end_count: usize,
 ) -> [usize; 100]
     ensures { λ r. ⌜ Sorted starts ends «start_count» «end_count» r ⌝ }

@@ -42,9 +42,9 @@ fn take_close(b: Limits, best: Best, start: Candidate, end: Candidate) -> Best
 // The best route on one road over all pairs with both points close to it, if there is one. It wins outright.
 pub fn try_same_edge_solution(
     b: Limits,
-    starts: [Candidate; 64],
+    starts: [Candidate; 10],
     start_count: usize,
-    ends: [Candidate; 64],
+    ends: [Candidate; 10],
     end_count: usize,
 ) -> Best
     ensures { λ r. ⌜ Stands r (try-same-edge-solution b (leg-pairs (take «start_count» starts) (take «end_count» ends))) ⌝ }

@@ -29,8 +29,8 @@ loop-holds c =
     let s = set .before .before in
     begun (now (s .args .s)) (s .args .c) (set .settings .result) (set .settings .ensures) (c .infinity .result) (c .infinity .ensures)
 
-find-candidates-requires : tie.Need-find-candidates-requires Inv-loop μ-loop
-find-candidates-requires c κs =
+rank-rows-requires : tie.Need-rank-rows-requires Inv-loop μ-loop
+rank-rows-requires c κs =
     let set = c .before .before .before .before in
     (set .before .before .pre, c .if1 .taken, set .settings .ensures)
 
@@ -41,10 +41,13 @@ returns c =
     let a = at .loop in
     let set = at .before .before in
     let s = set .before .before in
-    empty (now (s .args .s)) (s .args .c) (set .settings .result) (set .settings .ensures) (a .i) (a .at) (a .least) (a .inv) (f .before .if1 .taken) (f .find-candidates .result) (f .find-candidates .ensures) (c .if2 .taken)
+    empty (now (s .args .s)) (s .args .c) (set .settings .result) (set .settings .ensures) (a .i) (a .at) (a .least) (a .inv) (f .before .if1 .taken) (f .rank-rows .result) (f .rank-rows .ensures) (c .if2 .taken)
 
 nearest-requires : tie.Need-nearest-requires Inv-loop μ-loop
-nearest-requires c κs = c .before .before .find-candidates .ensures .few
+nearest-requires c κs =
+    let f = c .before .before in
+    let set = f .before .before .before .before .before in
+    (set .before .before .pre, f .before .if1 .taken, f .rank-rows .ensures)
 
 add-i : tie.Need-add-i Inv-loop μ-loop
 add-i c = omega arith
@@ -60,8 +63,8 @@ loop-again c =
     let a = at .loop in
     let set = at .before .before in
     let s = set .before .before in
-    let closer = passed-closer (now (s .args .s)) (s .args .c) (set .settings .result) (set .settings .ensures) (a .i) (a .at) (a .least) (a .inv) (f .before .if1 .taken) (f .find-candidates .result) (f .find-candidates .ensures) (d .before .if2 .left) (d .nearest .result) (d .nearest .ensures) in
-    let farther = passed-farther (now (s .args .s)) (s .args .c) (set .settings .result) (set .settings .ensures) (a .i) (a .at) (a .least) (a .inv) (f .before .if1 .taken) (f .find-candidates .result) (f .find-candidates .ensures) (d .before .if2 .left) (d .nearest .result) (d .nearest .ensures) in
+    let closer = passed-closer (now (s .args .s)) (s .args .c) (set .settings .result) (set .settings .ensures) (a .i) (a .at) (a .least) (a .inv) (f .before .if1 .taken) (f .rank-rows .result) (f .rank-rows .ensures) (d .before .if2 .left) (d .nearest .result) (d .nearest .ensures) in
+    let farther = passed-farther (now (s .args .s)) (s .args .c) (set .settings .result) (set .settings .ensures) (a .i) (a .at) (a .least) (a .inv) (f .before .if1 .taken) (f .rank-rows .result) (f .rank-rows .ensures) (d .before .if2 .left) (d .nearest .result) (d .nearest .ensures) in
     ⊎-elim
     (λ w.
     let e : c .if3 .least ≡ d .nearest .result = w .1 in
@@ -104,7 +107,7 @@ require-candidates-spec =
     settings-requires
     infinity-requires
     loop-holds
-    find-candidates-requires
+    rank-rows-requires
     returns
     nearest-requires
     add-i

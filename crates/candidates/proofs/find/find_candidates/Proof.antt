@@ -1,235 +1,121 @@
-use Prim.Native.Nat.{_+_, _-_, _≤_, _<_}
-use mathlib.Core.Logic.{⊎-elim}
-use mathlib.Core.Bool.{true, false}
-use mathlib.Core.Path.{_≡_, refl, sym, ap, _∙_}
-use native.Mathlib.Omega.{arith}
-use lib.ListN.{length, take, set, getD, length-set}
-use denote.Ref.{now}
-use borrow.Author.Tests.{not-true, not-false}
+use Rattle.candidates.proofs.RankLaws.{filled-more, found-tried}
+use Rattle.candidates.specs.Found.{no-candidate, candidates-at}
+use Rattle.model.specs.Sheet.{sheet-of}
 use borrow.Author.Needs.{needs}
-use Rattle.model.specs.Judge.{row-count}
-use Rattle.model.specs.Candidates.{better}
-use Rattle.sheet.proofs.Stops.{candidates-few}
-use Rattle.candidates.specs.Found.{no-candidate}
-use Rattle.candidates.proofs.Turns.{next-kept, next-dropped, found-most, found-all}
-use Rattle.candidates.proofs.Gathered.{sorted, row-candidate, row-kept, row-dropped}
-use Rattle.bounds.proofs.Shifted.{Moved, moved-none, moved-more}
+use lib.ListN.{length, length-set, getD}
+use native.Mathlib.Omega.{arith}
+use mathlib.Core.Path.{_≡_, refl, _∙_}
+use mathlib.Core.Logic.{⊎-elim}
+use Prim.Native.Nat.{ℕ, _+_, _≤_, _<_, _-_, min}
 use Rattle.candidates.proofs.find.find_candidates.Statement.{statement}
 use Rattle.candidates.proofs.find.find_candidates.Tie as tie
-
-abbrev Inv-shift : tie.InvT-shift
-Inv-shift s c set i p rows first items₀ count k x j₀ items j =
-    (j ≤ count) × (count ≤ k) × (k < 64) × Moved no-candidate items₀ count j items × (j < count → better x (getD items₀ j no-candidate) ≡ true)
-
-abbrev μ-shift : tie.MeasureT-shift
-μ-shift s c set i p rows first items₀ count k x j₀ items j =
-    j
+use Rattle.candidates.proofs.find.find_candidates.Reads as reads
+use Rattle.candidates.proofs.find.find_candidates.Lts as lts
+use Rattle.candidates.proofs.find.blank.Reads as blank-reads
+use Rattle.candidates.proofs.rank.measured.Reads as measured-reads
+use Rattle.candidates.proofs.rank.rank_rows.Reads as rank-rows-reads
+use Rattle.sheet.proofs.points.first_row.Reads as first-row-reads
+use Rattle.sheet.proofs.points.point.Reads as point-reads
 
 abbrev Inv-loop : tie.InvT-loop
-Inv-loop s c set i p rows first items₀ count₀ k₀ items count k =
-    (count ≤ k) × (k ≤ rows) × (length items ≡ 64) × (take count items ≡ sorted (row-candidate s c i) k)
+Inv-loop s c set i p first ranks count items₀ k₀ items k =
+    (k ≤ count) × (count ≡ min 10 (ranks .count)) × (length items ≡ 10) × ((j : ℕ) → j < k → getD items j no-candidate ≡ getD (candidates-at (sheet-of s c) i) j no-candidate)
 
 abbrev μ-loop : tie.MeasureT-loop
-μ-loop s c set i p rows first items₀ count₀ k₀ items count k =
-    rows - k
+μ-loop s c set i p first ranks count items₀ k₀ items k =
+    count - k
 
--- where the shift stops, x does not stand before the one in front
-stopped : (c : tie.Left-shift Inv-shift μ-shift Inv-loop μ-loop) →
-    (let a = c .before in let t = a .shift in let o = a .before .before .before .before .before in
-    0 < t .j → better (a .before .before .before .measured .result) (getD (o .loop .items) (t .j - 1) no-candidate) ≡ false)
-stopped c g =
-    let t = c .before .shift in
-    ⊎-elim
-    (λ w. absurd (let n = w .left in omega arith))
-    (λ w. rw (sym (t .inv .3 .low (t .j - 1) (omega arith))) (sym (w .2 .ensures) ∙ not-true _ (w .3 .taken)))
-    (c .shift-test .came)
+-- src/find.rt:48:9
+point-requires : tie.Need-point-requires Inv-loop μ-loop
+point-requires c κs = search needs
 
--- where the loop ends, every row was taken
-all-rows : (c : tie.After-loop Inv-shift μ-shift Inv-loop μ-loop) →
-    (let a = c .before in let s = a .before .before .before .before .before .before in let b = now (s .args .s) in let i = s .args .i in
-    take (a .loop .count) (a .loop .items) ≡ sorted (row-candidate b (s .args .c) i) (row-count b i))
-all-rows c =
-    let a = c .before in
-    let s = a .before .before .before .before .before .before in
-    let rows = a .before .before .before .row-count .ensures .0 in
-    let e : a .loop .k ≡ row-count (now (s .args .s)) (s .args .i) = (let l = c .loop-test .left in omega (arith, rows, a .loop .inv .1)) in
-    rw e at (a .loop .inv .3)
+-- src/find.rt:49:9
+first-row-requires : tie.Need-first-row-requires Inv-loop μ-loop
+first-row-requires c κs = search needs
 
-point-requires : tie.Need-point-requires Inv-shift μ-shift Inv-loop μ-loop
-point-requires c κs = let s = c .before in (s .pre .0, s .pre .1)
+-- src/find.rt:50:17
+rank-rows-requires : tie.Need-rank-rows-requires Inv-loop μ-loop
+rank-rows-requires c κs = search needs
 
-row-count-requires : tie.Need-row-count-requires Inv-shift μ-shift Inv-loop μ-loop
-row-count-requires c κs = let s = c .before .before in (s .pre .0, s .pre .1)
-
-first-row-requires : tie.Need-first-row-requires Inv-shift μ-shift Inv-loop μ-loop
-first-row-requires c κs = let s = c .before .before .before in (s .pre .0, s .pre .1)
-
-blank-requires : tie.Need-blank-requires Inv-shift μ-shift Inv-loop μ-loop
+-- src/find.rt:52:9
+blank-requires : tie.Need-blank-requires Inv-loop μ-loop
 blank-requires c κs = search needs
 
-loop-holds : tie.Need-loop-holds Inv-shift μ-shift Inv-loop μ-loop
-unfolding sorted
-loop-holds c = (omega arith, omega arith, refl, refl)
+-- src/find.rt:55:5
+loop-holds : tie.Need-loop-holds Inv-loop μ-loop
+loop-holds c = (omega arith, ⊎-elim (λ w. (let l = w .0 .taken in let e = w .1 in omega arith)) (λ w. (let l = w .0 .left in let e = w .1 in omega arith)) (c .before .if1 .came), refl, λ j h. absurd (omega arith))
 
-add-measured : tie.Need-add-measured Inv-shift μ-shift Inv-loop μ-loop
-add-measured c = omega arith
+-- src/find.rt:56:17
+mul-r : tie.Need-mul-r Inv-loop μ-loop
+mul-r c = omega (arith, c .before .loop .inv .1, c .loop-test .taken)
 
-measured-requires : tie.Need-measured-requires Inv-shift μ-shift Inv-loop μ-loop
-measured-requires c κs =
-    let s = c .before .before .before .before .before .before .before in
-    (s .pre .0, omega arith, c .before .before .before .before .before .point .ensures .2)
+-- src/find.rt:56:17
+element-copy-out-r : tie.Need-element-copy-out-r Inv-loop μ-loop
+element-copy-out-r c = omega (arith, c .before .loop .inv .1, c .loop-test .taken, c .before .before .before .before .rank-rows .ensures .long)
 
-passes-requires : tie.Need-passes-requires Inv-shift μ-shift Inv-loop μ-loop
-passes-requires c κs = search needs
+-- src/find.rt:57:49
+add-measured : tie.Need-add-measured Inv-loop μ-loop
+add-measured c = omega (arith, c .before .before .before .before .before .before .rank-rows .ensures .rows (c .before .before .before .loop .k) (omega (arith, c .before .before .before .loop .inv .1, c .before .before .loop-test .taken)), c .before .before .before .before .before .before .before .first-row .ensures .1, c .before .before .before .before .before .before .before .before .before .before .pre .0 .sound .small .m)
 
-shift-holds : tie.Need-shift-holds Inv-shift μ-shift Inv-loop μ-loop
-shift-holds c =
-    let a = c .before .before .before .before .loop in
-    (omega arith, a .inv .0, omega arith, moved-none no-candidate (a .items) (a .count), λ h. absurd (omega arith))
+-- src/find.rt:57:20
+measured-requires : tie.Need-measured-requires Inv-loop μ-loop
+measured-requires c κs = (c .before .before .before .before .before .before .before .before .before .before .pre .0, omega (arith, c .before .before .before .before .before .before .rank-rows .ensures .rows (c .before .before .before .loop .k) (omega (arith, c .before .before .before .loop .inv .1, c .before .before .loop-test .taken)), c .before .before .before .before .before .before .before .first-row .ensures .1), c .before .before .before .before .before .before .before .before .point .ensures .2)
 
-sub-y : tie.Need-sub-y Inv-shift μ-shift Inv-loop μ-loop
-sub-y c = omega arith
+-- src/find.rt:57:9
+mul-items : tie.Need-mul-items Inv-loop μ-loop
+mul-items c = omega (arith, c .before .before .before .before .loop .inv .1, c .before .before .before .loop-test .taken)
 
-mul-y : tie.Need-mul-y Inv-shift μ-shift Inv-loop μ-loop
-mul-y c = omega arith
+-- src/find.rt:57:9
+array-set-from-items : tie.Need-array-set-from-items Inv-loop μ-loop
+array-set-from-items c = omega (arith, c .before .before .before .before .loop .inv .1, c .before .before .before .before .loop .inv .2, c .before .before .before .loop-test .taken)
 
-array-copy-out-y : tie.Need-array-copy-out-y Inv-shift μ-shift Inv-loop μ-loop
-array-copy-out-y c = omega arith
+-- src/find.rt:58:9
+add-k : tie.Need-add-k Inv-loop μ-loop
+add-k c = omega (arith, c .before .before .before .before .loop .inv .1, c .before .before .before .loop-test .taken)
 
-better-requires : tie.Need-better-requires Inv-shift μ-shift Inv-loop μ-loop
-better-requires c κs = search needs
-
-mul-items : tie.Need-mul-items Inv-shift μ-shift Inv-loop μ-loop
-mul-items c = omega arith
-
-array-set-from-items : tie.Need-array-set-from-items Inv-shift μ-shift Inv-loop μ-loop
-array-set-from-items c = omega arith
-
-sub-j : tie.Need-sub-j Inv-shift μ-shift Inv-loop μ-loop
-sub-j c = omega arith
-
-shift-less : tie.Need-shift-less Inv-shift μ-shift Inv-loop μ-loop
-shift-less c = omega arith
-
-shift-again : tie.Need-shift-again Inv-shift μ-shift Inv-loop μ-loop
-shift-again c =
-    let at = c .before .before .before .before in
-    let t = at .shift in
-    let o = at .before .before .before in
-    let a = o .before .before .loop in
-    let m = t .inv .3 in
-    let before : better (o .measured .result) (getD (a .items) (t .j - 1) no-candidate) ≡ true =
-    rw (sym (m .low (t .j - 1) (omega arith))) (sym (c .before .better .ensures) ∙ not-false _ (c .if2 .left)) in (
-      omega arith,
-      omega arith,
-      omega arith,
-      moved-more no-candidate (a .items) (a .count) (t .j) (t .items) (omega arith) (omega arith) (let l = a .inv .2 in omega arith) m,
-      λ h. before,
-    )
-
-mul-items-2 : tie.Need-mul-items-2 Inv-shift μ-shift Inv-loop μ-loop
-mul-items-2 c = omega arith
-
-array-set-from-items-2 : tie.Need-array-set-from-items-2 Inv-shift μ-shift Inv-loop μ-loop
-array-set-from-items-2 c = omega arith
-
-add-count : tie.Need-add-count Inv-shift μ-shift Inv-loop μ-loop
-add-count c = omega arith
-
-add-k : tie.Need-add-k Inv-shift μ-shift Inv-loop μ-loop
-add-k c = omega arith
-
-loop-less : tie.Need-loop-less Inv-shift μ-shift Inv-loop μ-loop
+-- src/find.rt:55:5
+loop-less : tie.Need-loop-less Inv-loop μ-loop
 loop-less c = omega arith
 
-loop-again : tie.Need-loop-again Inv-shift μ-shift Inv-loop μ-loop
-loop-again c =
-    let o = c .before .before in
-    let at = o .before .before in
-    let a = at .loop in
-    let first = at .before .before in
-    let rows = first .before in
-    let point = rows .before in
-    let s = point .before .before in
-    let b = now (s .args .s) in
-    let i = s .args .i in
-    let x = o .measured .result in
-    let l : a .k < row-count b i = (let t = o .before .loop-test .taken in omega (arith, rows .row-count .ensures .0)) in
-    let kept = row-kept b (s .args .c) i (a .k) (s .args .set) (point .point .result) (first .first-row .result) x (s .pre .2) (point .point .ensures .0) (first .first-row .ensures .0) (o .measured .ensures) in
-    let dropped = row-dropped b (s .args .c) i (a .k) (s .args .set) (point .point .result) (first .first-row .result) x (s .pre .2) (point .point .ensures .0) (first .first-row .ensures .0) (o .measured .ensures) in
-    let passed = sym (c .before .passes .ensures) in
-    ⊎-elim
-    (λ w.
-    let t = w .1 in
-    let left : tie.Left-shift Inv-shift μ-shift Inv-loop μ-loop = record { before = record { before = record { before = c .before; if1 = w .0 }; shift = t }; shift-test = w .2 } in
-    let e : c .if1 .items ≡ set (t .items) (t .j) x = w .3 in
-    let f : c .if1 .count ≡ a .count + 1 = w .4 in (
+-- src/find.rt:55:5
+loop-again : tie.Need-loop-again Inv-loop μ-loop
+loop-again c = let s = c .before .before .before .before .before .before .before .before .before .before .before .args .s .now in
+    let n = c .before .before .before .before .before .before .before .before .before .before .before .args .c in
+    let i = c .before .before .before .before .before .before .before .before .before .before .before .args .i in
+    let r = c .before .before .before .before .before .before .before .rank-rows in
+    let k = c .before .before .before .before .loop .k in
+    let l : k < r .result .count = omega (arith, c .before .before .before .before .loop .inv .1, c .before .before .before .loop-test .taken) in (
       omega arith,
-      omega arith,
-      ap length e ∙ simp length-set (t .inv .3 .long ∙ a .inv .2),
-      rw (f, e) (next-kept b (s .args .c) i (s .pre .1) (s .pre .0) (a .k) l (a .items) (a .count) (a .inv .3) x (t .items) (t .j) (kept (passed ∙ w .0 .taken))
-          (let y = a .inv .2 in omega arith) (t .inv .0) (t .inv .3) (stopped left) (t .inv .4)),
-    ))
-    (λ w.
-    let e : c .if1 .items ≡ a .items = w .1 in
-    let f : c .if1 .count ≡ a .count = w .2 in (
-      omega arith,
-      omega arith,
-      ap length e ∙ a .inv .2,
-      rw (f, e) (next-dropped b (s .args .c) i (s .pre .1) (s .pre .0) (a .k) l (a .items) (a .count) (a .inv .3) (dropped (passed ∙ w .0 .left))),
-    ))
-    (c .if1 .came)
+      c .before .before .before .before .loop .inv .1,
+      simp length-set (c .before .before .before .before .loop .inv .2),
+      filled-more s n i (r .result) (r .ensures) (c .before .before .before .before .before .before .before .before .before .before .before .args .set) (c .before .before .before .before .before .before .before .before .before .point .result) (c .before .before .before .before .before .before .before .before .first-row .result) (c .before .before .before .before .before .before .before .before .before .before .before .pre .2) (c .before .before .before .before .before .before .before .before .before .point .ensures .0) (c .before .before .before .before .before .before .before .before .first-row .ensures .0) k l (c .before .before .before .before .loop .items) (omega (arith, c .before .before .before .before .loop .inv .1, c .before .before .before .before .loop .inv .2, c .before .before .before .loop-test .taken)) (c .measured .result) (c .measured .ensures) (c .before .before .before .before .loop .inv .3),
+    )
 
-cast-most : tie.Need-cast-most Inv-shift μ-shift Inv-loop μ-loop
-cast-most c =
-    let s = c .before .before .before .before .before .before .before .before in
-    let few : s .args .set .«max_candidates» ≤ 64 = rw (s .pre .2) (candidates-few (now (s .args .s)) (s .args .c) (s .pre .0)) in
-    record { fits = omega arith }
-
-returns : tie.Need-returns Inv-shift μ-shift Inv-loop μ-loop
-returns c =
-    let a = c .before .before .before .loop in
-    let s = c .before .before .before .before .before .before .before .before .before in
-    found-most (now (s .args .s)) (s .args .c) (s .args .i) (s .pre .1) (s .pre .0) (s .args .set) (s .pre .2) (a .items) (a .inv .2) (a .count) (omega arith) (all-rows (c .before .before)) (c .if3 .taken)
-
-returns-2 : tie.Need-returns-2 Inv-shift μ-shift Inv-loop μ-loop
-returns-2 c =
-    let a = c .before .before .before .loop in
-    let s = c .before .before .before .before .before .before .before .before .before in
-    found-all (now (s .args .s)) (s .args .c) (s .args .i) (s .pre .1) (s .pre .0) (s .args .set) (s .pre .2) (a .items) (a .inv .2) (a .count) (omega arith) (all-rows (c .before .before)) (c .if3 .left)
+-- src/find.rt:44:1
+returns : tie.Need-returns Inv-loop μ-loop
+returns c = let s = c .before .before .before .before .before .before .before .before .args .s .now in
+    let n = c .before .before .before .before .before .before .before .before .args .c in
+    let i = c .before .before .before .before .before .before .before .before .args .i in
+    found-tried s n i (c .before .before .before .before .rank-rows .result) (c .before .before .before .before .rank-rows .ensures) (c .before .before .before .before .before .before .before .before .pre .1) (c .before .before .before .before .before .before .before .before .pre .0) _ (c .before .loop .items) (c .before .loop .inv .2) (c .before .loop .inv .1) (λ k h. c .before .loop .inv .3 k (let l = c .loop-test .left in omega arith))
 
 pub find-candidates-spec : {M : Type 1} → statement M
 find-candidates-spec =
     tie.close
     (tie.spec
-    Inv-shift
-    μ-shift
     Inv-loop
     μ-loop
     point-requires
-    row-count-requires
     first-row-requires
+    rank-rows-requires
     blank-requires
     loop-holds
+    mul-r
+    element-copy-out-r
     add-measured
     measured-requires
-    passes-requires
-    shift-holds
-    sub-y
-    mul-y
-    array-copy-out-y
-    better-requires
     mul-items
     array-set-from-items
-    sub-j
-    shift-less
-    shift-again
-    mul-items-2
-    array-set-from-items-2
-    add-count
     add-k
     loop-less
     loop-again
-    cast-most
-    returns
-    returns-2)
+    returns)

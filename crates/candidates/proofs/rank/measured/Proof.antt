@@ -1,6 +1,6 @@
 use borrow.Author.Needs.{needs}
-use Rattle.candidates.proofs.find.measured.Statement.{statement}
-use Rattle.candidates.proofs.find.measured.Tie as tie
+use Rattle.candidates.proofs.rank.measured.Statement.{statement}
+use Rattle.candidates.proofs.rank.measured.Tie as tie
 
 row-requires : tie.Need-row-requires
 row-requires c κs = search needs

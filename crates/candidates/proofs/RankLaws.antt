@@ -1,0 +1,201 @@
+-- Ranks instead of candidates: sorting the ranks of a point's rows one at a time gives the rows of the definition's sorted candidates.
+use Prim.Native.Nat.{ℕ, zero, suc, _+_, _-_, _≤_, _<_, min}
+use mathlib.Core.Path.{_≡_, refl, sym, ap, _∙_, subst}
+use mathlib.Core.Logic.{⊎-elim}
+use mathlib.Core.Bool.{true, false}
+use mathlib.Core.Option.{Option, none, some}
+use mathlib.Core.List.{List, [], map}
+use native.Mathlib.Numerals.{add-one}
+use native.Mathlib.Omega.{arith}
+use lib.ListN.{length, take, getD, set, length-map, length-take}
+use lib.ListN as list
+use lib.Seq.{getD-take, getD-set-same, getD-set-other, length-take-le, take-take, take-all, ext-getD}
+use Rattle.model.specs.declared.Counts.{Counts}
+use Rattle.model.specs.declared.Settings.{Settings}
+use Rattle.model.specs.declared.Point.{Point}
+use Rattle.model.specs.declared.Candidate.{Candidate}
+use Rattle.model.specs.declared.Row.{Row}
+use Rattle.model.specs.Lists.{In, insert, when}
+use Rattle.model.specs.Layout.{points-bytes, rows-bytes}
+use Rattle.model.specs.Judge.{WellFormed, row-count, rows-before}
+use Rattle.model.specs.Sheet.{point-of, row-of, sheet-of}
+use Rattle.model.specs.View.{spot-of}
+use Rattle.model.specs.Candidates.{candidate-of, candidate, better, passes}
+use Rattle.model.proofs.Members.{getD-map, map-take, map-insert, in-getD, in-take, Every, every-none}
+use Rattle.bounds.proofs.Sources.{when-some}
+use Rattle.bounds.proofs.Choices.{below-or-not}
+use Rattle.bounds.proofs.Shifted.{Moved, put-in}
+use Rattle.candidates.specs.declared.rank.Rank.{Rank}
+use Rattle.candidates.specs.declared.rank.Ranks.{Ranks}
+use Rattle.candidates.specs.Found.{candidates-at, OnSheet, no-candidate, Found}
+use Rattle.candidates.specs.Ranking.{row-measured, rank-of, ahead, no-rank, Ranked}
+use Rattle.candidates.proofs.Sorted.{Orders, Ordered, every-insert, insert-ordered, insert-at}
+use Rattle.candidates.proofs.Ranked.{Scored, better-orders}
+use Rattle.candidates.proofs.Gathered.{sorted, row-candidate, row-facts, cut-is, candidates-facts}
+
+-- ---- the rows of a point
+
+-- the rank of a row, if its candidate passes
+abbrev rank-if : ℕ → Option Candidate → Option Rank
+rank-if k none = none
+rank-if k (some x) = some (rank-of k x)
+
+abbrev placed : Option Rank → List Rank → List Rank
+placed none xs = xs
+placed (some x) xs = insert ahead x xs
+
+-- the ranks of the first k rows, sorted
+unfoldable pub ranked : List ℕ → Counts → ℕ → ℕ → List Rank
+ranked s c i zero = []
+ranked s c i (suc k) = placed (rank-if k (row-candidate s c i k)) (ranked s c i k)
+
+module _ (s : List ℕ) (c : Counts) (i : ℕ) where
+  -- the candidate that a rank stands for
+  abbrev standing : Rank → Candidate
+  standing r = row-measured s c i (r .row)
+
+  -- the rank of a row that passes
+  record Own (r : Rank) : Type 0 where
+    pub row : r .row < row-count s i
+    pub is : r ≡ rank-of (r .row) (row-measured s c i (r .row))
+    pub scored : Scored (row-measured s c i (r .row))
+
+  agrees : (a b : Rank) → Own a → Own b → ahead a b ≡ better (standing a) (standing b)
+  unfolding better
+  agrees a b p q = rw (p .is, q .is)
+
+  ahead-orders : Orders ahead Own
+  ahead-orders = record {
+    onward = λ x a b p q r e f. agrees x b p r ∙ better-orders .onward _ _ _ (p .scored) (q .scored) (r .scored) (sym (agrees x a p q) ∙ e) (sym (agrees b a r q) ∙ f);
+    one-way = λ x a p q e. agrees a x q p ∙ better-orders .one-way _ _ (p .scored) (q .scored) (sym (agrees x a p q) ∙ e);
+  }
+
+  -- a candidate that passes is its row's
+  row-is : (k : ℕ) (x : Candidate) → row-candidate s c i k ≡ some x → row-measured s c i k ≡ x
+  unfolding row-candidate candidate row-measured
+  row-is k x e = when-some (passes (sheet-of s c .settings) (row-measured s c i k)) (row-measured s c i k) x e .1
+
+  module _ (h : i < c .p) (ok : WellFormed s c) where
+    own : (k : ℕ) → k < row-count s i → (x : Candidate) → row-candidate s c i k ≡ some x → Own (rank-of k x)
+    own k l x e =
+        let is = row-is k x e in
+        record { row = l; is = ap (rank-of k) (sym is); scored = subst Scored (sym is) (row-facts s c i h ok k l x e .0) }
+
+    -- the first k rows
+    record Facts (k : ℕ) (xs : List Rank) : Type 0 where
+      pub owns : Every Own xs
+      pub ordered : Ordered ahead xs
+      pub are : map standing xs ≡ sorted (row-candidate s c i) k
+
+    facts : (k : ℕ) → k ≤ row-count s i → Facts k (ranked s c i k)
+    unfolding ranked sorted
+    facts zero l = record { owns = every-none _; ordered = tt; are = refl }
+    facts (suc k) l = go (row-candidate s c i k) refl (facts k (omega arith))
+      where
+        go : {xs : List Rank} (o : Option Candidate) → row-candidate s c i k ≡ o → Facts k xs → Facts (suc k) (placed (rank-if k o) xs)
+        go none e f = record { owns = f .owns; ordered = f .ordered; are = f .are ∙ sym (rw (sorted, e)) }
+        go {xs} (some x) e f =
+            let mine = own k l x e in
+            let same : standing (rank-of k x) ≡ x = row-is k x e in
+            record {
+              owns = every-insert ahead Own (rank-of k x) xs mine (f .owns);
+              ordered = insert-ordered ahead Own ahead-orders (rank-of k x) xs mine (f .owns) (f .ordered);
+              are = map-insert standing ahead better (rank-of k x) xs (λ y m. agrees (rank-of k x) y mine (f .owns y m)) ∙ rw (same, f .are) (sym (rw (sorted, e)));
+            }
+
+    -- ---- a turn of the loop over the rows
+
+    module _ (k : ℕ) (l : k < row-count s i) (xs : List Rank) (n : ℕ) (inv : take n xs ≡ ranked s c i k) where
+      pub next-dropped : row-candidate s c i k ≡ none → take n xs ≡ ranked s c i (k + 1)
+      unfolding ranked
+      next-dropped e = inv ∙ sym (rw (add-one k, ranked, e))
+
+      pub next-kept : (x : Candidate) (out : List Rank) (j : ℕ) → row-candidate s c i k ≡ some x → n < length xs → j ≤ n → Moved no-rank xs n j out
+          → (0 < j → ahead (rank-of k x) (getD xs (j - 1) no-rank) ≡ false) → (j < n → ahead (rank-of k x) (getD xs j no-rank) ≡ true) → take (n + 1) (set out j (rank-of k x)) ≡ ranked s c i (k + 1)
+      unfolding ranked
+      next-kept x out j e fit le m low high =
+          let f = facts k (omega arith) in
+          let long : length (take n xs) ≡ n = length-take-le n xs (omega arith) in
+          put-in no-rank xs n j out (rank-of k x) le fit m
+          ∙ sym (insert-at ahead Own ahead-orders (rank-of k x) no-rank (own k l x e) (take n xs) j
+          (subst (Every Own) (sym inv) (f .owns)) (subst (Ordered ahead) (sym inv) (f .ordered)) (omega arith)
+          (λ g. ap (ahead (rank-of k x)) (getD-take n xs (j - 1) no-rank (omega arith)) ∙ low g)
+          (λ g. ap (ahead (rank-of k x)) (getD-take n xs j no-rank (omega arith)) ∙ high (omega arith)))
+          ∙ rw inv (sym (rw (add-one k, ranked, e)))
+
+    -- what is cut to the most candidates
+    found : (r : Ranks) → r .count ≤ 64 → length (r .items) ≡ 64
+        → take (r .count) (r .items) ≡ take (sheet-of s c .settings .«max_candidates») (ranked s c i (row-count s i)) → Ranked s c i r
+    found r few long e =
+        let f = facts (row-count s i) (omega arith) in
+        let most = sheet-of s c .settings .«max_candidates» in
+        record {
+          are = ap (map standing) e ∙ map-take standing most (ranked s c i (row-count s i)) ∙ ap (take most) (f .are) ∙ cut-is s c i h;
+          long = long;
+          few = few;
+          rows = λ k l.
+              let inside = in-getD (take (r .count) (r .items)) k no-rank (omega (arith, length-take-le (r .count) (r .items) (omega arith))) in
+              let there = subst (In (getD (r .items) k no-rank)) e (rw (getD-take (r .count) (r .items) k no-rank l) at inside) in
+              f .owns _ (in-take most (ranked s c i (row-count s i)) there) .row;
+        }
+
+    module _ (set : Settings) (es : set ≡ sheet-of s c .settings) (xs : List Rank) (long : length xs ≡ 64) (n : ℕ) (few : n ≤ 64)
+        (e : take n xs ≡ ranked s c i (row-count s i)) where
+      most : set .«max_candidates» ≡ sheet-of s c .settings .«max_candidates»
+      most = ap (λ (x : Settings). x .«max_candidates») es
+
+      pub found-most : set .«max_candidates» < n → Ranked s c i (record { items = xs; count = set .«max_candidates» })
+      found-most g = found (record { items = xs; count = set .«max_candidates» }) (omega arith) long
+          (sym (take-take (set .«max_candidates») n xs (omega arith)) ∙ ap (take (set .«max_candidates»)) e ∙ ap (λ (z : ℕ). take z (ranked s c i (row-count s i))) most)
+
+      pub found-all : n ≤ set .«max_candidates» → Ranked s c i (record { items = xs; count = n })
+      found-all g =
+          let m = sheet-of s c .settings .«max_candidates» in
+          found (record { items = xs; count = n }) few long (sym (take-all m (take n xs) (omega (arith, most, length-take-le n xs (omega arith)))) ∙ ap (take m) e)
+
+-- ---- from the ranks back to the candidates
+
+module _ (s : List ℕ) (c : Counts) (i : ℕ) (r : Ranks) (f : Ranked s c i r) where
+  taken : length (take (r .count) (r .items)) ≡ r .count
+  taken = length-take-le (r .count) (r .items) (omega (arith, f .few, f .long))
+
+  pub counted : length (candidates-at (sheet-of s c) i) ≡ r .count
+  counted = ap length (sym (f .are)) ∙ length-map (take (r .count) (r .items)) (λ (x : Rank). row-measured s c i (x .row)) ∙ taken
+
+  -- the candidate that rank k stands for
+  pub standing-at : (k : ℕ) → k < r .count → row-measured s c i (getD (r .items) k no-rank .row) ≡ getD (candidates-at (sheet-of s c) i) k no-candidate
+  standing-at k l =
+      ap (λ (x : Rank). row-measured s c i (x .row)) (sym (getD-take (r .count) (r .items) k no-rank l))
+      ∙ sym (getD-map (λ (x : Rank). row-measured s c i (x .row)) (take (r .count) (r .items)) k no-rank no-candidate (omega (arith, taken)))
+      ∙ ap (λ (xs : List Candidate). getD xs k no-candidate) (f .are)
+
+  -- the distance stands in the row
+  pub distance-at : (k : ℕ) → k < r .count → (w : Row) → w ≡ row-of (rows-bytes s c) (rows-before s i + getD (r .items) k no-rank .row) → w .distance ≡ getD (candidates-at (sheet-of s c) i) k no-candidate .distance
+  unfolding row-measured candidate-of
+  distance-at k l w e = ap (λ (x : Row). x .distance) e ∙ ap (λ (x : Candidate). x .distance) (standing-at k l)
+
+  -- one candidate more, made of its row
+  pub filled-more : (set : Settings) (p : Point) (first : ℕ) → set ≡ sheet-of s c .settings → p ≡ point-of (points-bytes s c) i → first ≡ rows-before s i
+      → (k : ℕ) → k < r .count → (items : List Candidate) → k < length items → (x : Candidate) → x ≡ candidate-of set p (spot-of (sheet-of s c) (row-of (rows-bytes s c) (first + getD (r .items) k no-rank .row)))
+      → ((j : ℕ) → j < k → getD items j no-candidate ≡ getD (candidates-at (sheet-of s c) i) j no-candidate)
+      → (j : ℕ) → j < k + 1 → getD (list.set items k x) j no-candidate ≡ getD (candidates-at (sheet-of s c) i) j no-candidate
+  unfolding row-measured
+  filled-more set p first es ep ef k l items fit x e h j g =
+      let here : x ≡ getD (candidates-at (sheet-of s c) i) k no-candidate = rw (es, ep, ef) at e ∙ standing-at k l in
+      ⊎-elim
+      (λ (w : j < k). getD-set-other items k j x no-candidate (λ e. omega arith) ∙ h j w)
+      (λ (w : k ≤ j). let same : j ≡ k = omega arith in rw same (getD-set-same items k x no-candidate fit ∙ here))
+      (below-or-not j k)
+
+  module _ (h : i < c .p) (ok : WellFormed s c) (n : ℕ) (items : List Candidate) (long : length items ≡ 10) (is : n ≡ min 10 (r .count))
+      (each : (k : ℕ) → k < n → getD items k no-candidate ≡ getD (candidates-at (sheet-of s c) i) k no-candidate) where
+    -- the candidates that a leg may try
+    pub found-tried : Found (sheet-of s c) c i (record { items = items; count = n })
+    found-tried =
+        let front : length (take n items) ≡ n = length-take-le n items (omega arith) in
+        record {
+          are = ext-getD no-candidate (take n items) (take 10 (candidates-at (sheet-of s c) i)) (front ∙ is ∙ sym (simp length-take (ap (min 10) counted)))
+              (λ k l. getD-take n items k no-candidate (omega arith) ∙ each k (omega arith) ∙ sym (getD-take 10 (candidates-at (sheet-of s c) i) k no-candidate (omega arith)));
+          few = omega arith;
+          items = λ k l. subst (OnSheet (sheet-of s c) c) (sym (each k l)) (candidates-facts s c i h ok .1 _ (in-getD (candidates-at (sheet-of s c) i) k no-candidate (omega (arith, counted))));
+        }
