@@ -15,6 +15,116 @@
 extern "C" {
 #endif
 
+/* The sheet, little-endian. Behind the header its sections follow without gaps in the order of their offsets; a record's
+ * bytes that are named by none of its places are 0. Every f64 has its sign bit clear and is at most HEMOKATU_MOST_F64.
+ * examples/s1.c writes a sheet by these constants. */
+enum hemokatu_sheet {
+    /* Places in the header, u32 each: kind, counts, offsets of the sections, length of the sheet, 0. */
+    HEMOKATU_HEADER_KIND = 0,
+    HEMOKATU_HEADER_POINTS = 4,
+    HEMOKATU_HEADER_NODES = 8,
+    HEMOKATU_HEADER_ROADS = 12,
+    HEMOKATU_HEADER_ROWS = 16,
+    HEMOKATU_HEADER_GOALS = 20,
+    HEMOKATU_HEADER_SETTINGS_AT = 24,
+    HEMOKATU_HEADER_POINTS_AT = 28,
+    HEMOKATU_HEADER_ROADS_AT = 32,
+    HEMOKATU_HEADER_LISTS_AT = 36,
+    HEMOKATU_HEADER_ROWS_AT = 40,
+    HEMOKATU_HEADER_DISTANCES_AT = 44,
+    HEMOKATU_HEADER_TOTAL = 48,
+    HEMOKATU_HEADER_ZERO = 52,
+    HEMOKATU_HEADER_SIZE = 56,
+
+    /* Settings, once: 13 f64, then u8, u8, u16. */
+    HEMOKATU_SETTINGS_SEARCH_RADIUS = 0,
+    HEMOKATU_SETTINGS_MOST_BEARING_DIFFERENCE = 8,
+    HEMOKATU_SETTINGS_MOST_CANDIDATE_DISTANCE = 16,
+    HEMOKATU_SETTINGS_DISTANCE_WEIGHT = 24,
+    HEMOKATU_SETTINGS_BEARING_WEIGHT = 32,
+    HEMOKATU_SETTINGS_FRC_WEIGHT = 40,
+    HEMOKATU_SETTINGS_FOW_WEIGHT = 48,
+    HEMOKATU_SETTINGS_LENGTH_TOLERANCE = 56,
+    HEMOKATU_SETTINGS_ABSOLUTE_TOLERANCE = 64,
+    HEMOKATU_SETTINGS_SEARCH_FACTOR = 72,
+    HEMOKATU_SETTINGS_SLIP_PENALTY = 80,
+    HEMOKATU_SETTINGS_ACCESS_PENALTY = 88,
+    HEMOKATU_SETTINGS_SNAP_EXTENSION = 96,
+    HEMOKATU_SETTINGS_FRC_TOLERANCE = 104,   /* u8 */
+    HEMOKATU_SETTINGS_SNAP = 105,            /* u8, 0 or 1 */
+    HEMOKATU_SETTINGS_MOST_CANDIDATES = 106, /* u16, up to HEMOKATU_MOST_CANDIDATES */
+    HEMOKATU_SETTINGS_SIZE = 112,
+
+    /* Point. */
+    HEMOKATU_POINT_DNP = 0,     /* f64; 0 without a path entry */
+    HEMOKATU_POINT_BEARING = 8, /* u16, up to 360 */
+    HEMOKATU_POINT_FRC = 10,    /* u8, up to 7 */
+    HEMOKATU_POINT_FOW = 11,    /* u8, up to 7 */
+    HEMOKATU_POINT_LIMIT = 12,  /* u8, up to 7, or HEMOKATU_NO_PATH_ENTRY */
+    HEMOKATU_POINT_ROWS = 16,   /* u32: how many rows are this point's, up to HEMOKATU_MOST_POINT_ROWS */
+    HEMOKATU_POINT_SIZE = 24,
+    HEMOKATU_NO_PATH_ENTRY = 255,
+
+    /* Road. */
+    HEMOKATU_ROAD_ID = 0,      /* u64 */
+    HEMOKATU_ROAD_LENGTH = 8,  /* f64 */
+    HEMOKATU_ROAD_SOURCE = 16, /* u32, a node */
+    HEMOKATU_ROAD_TARGET = 20, /* u32, a node */
+    HEMOKATU_ROAD_FRC = 24,    /* u8, up to 7 */
+    HEMOKATU_ROAD_FOW = 25,    /* u8, up to 7 */
+    HEMOKATU_ROAD_ACCESS = 26, /* u8, 0 or 1 */
+    HEMOKATU_ROAD_SIZE = 32,
+
+    /* Lists: nodes + 1 start positions, then the number of every road in its source's part. */
+    HEMOKATU_LIST_ENTRY_SIZE = 4, /* u32 */
+
+    /* Row, point after point, roads rising within a point. */
+    HEMOKATU_ROW_ROAD = 0,         /* u32, a road's number */
+    HEMOKATU_ROW_DISTANCE = 8,     /* f64 */
+    HEMOKATU_ROW_BEARING = 16,     /* f64, up to 360 */
+    HEMOKATU_ROW_ALONG = 24,       /* f64 */
+    HEMOKATU_ROW_LINE_LENGTH = 32, /* f64 */
+    HEMOKATU_ROW_SIZE = 40,
+
+    /* Distances: of every node from the first point, of every node from the last, then goal rows, their nodes rising. */
+    HEMOKATU_DISTANCE_SIZE = 8,  /* f64 */
+    HEMOKATU_GOAL_NODE = 0,      /* u32 */
+    HEMOKATU_GOAL_DISTANCES = 8, /* f64 for every node; they end the goal row */
+
+    /* The greatest counts and values. */
+    HEMOKATU_MOST_POINTS = 16,
+    HEMOKATU_MOST_NODES = 1024,
+    HEMOKATU_MOST_ROADS = 4096,
+    HEMOKATU_MOST_ROWS = 1024,
+    HEMOKATU_MOST_GOALS = 1024,
+    HEMOKATU_MOST_POINT_ROWS = 64,
+    HEMOKATU_MOST_CANDIDATES = 64,
+    HEMOKATU_MOST_BEARING = 360,
+    HEMOKATU_MOST_CLASS = 7, /* FRC, FOW and limit */
+    HEMOKATU_MOST_F64 = 10000000
+};
+
+/* The kinds. Those after the second are refusal 7. */
+enum hemokatu_kind {
+    HEMOKATU_KIND_LINE = 1,
+    HEMOKATU_KIND_POINT_ALONG_LINE = 2, /* has two points */
+    HEMOKATU_KIND_GEO_COORDINATE = 3,
+    HEMOKATU_KIND_POI = 4,
+    HEMOKATU_KIND_CIRCLE = 5,
+    HEMOKATU_KIND_RECTANGLE = 6,
+    HEMOKATU_KIND_GRID = 7,
+    HEMOKATU_KIND_POLYGON = 8,
+    HEMOKATU_KIND_CLOSED_LINE = 9
+};
+
+/* The default settings: an initializer for the 13 f64 in their order, and what follows them. */
+#define HEMOKATU_DEFAULT_SETTINGS {100, 90, 35, 10, 0.2, 0.1, 0.1, 0.35, 100, 2, 20, 10, 25}
+enum hemokatu_default {
+    HEMOKATU_DEFAULT_FRC_TOLERANCE = 2,
+    HEMOKATU_DEFAULT_SNAP = 1,
+    HEMOKATU_DEFAULT_MOST_CANDIDATES = 10
+};
+
 /* The number of an answer: a match, or why there is none. Places that a line does not name are 0. */
 enum hemokatu_number {
     HEMOKATU_MATCHED = 0,        /* a match; of hemokatu_judge: the sheet is well-formed */
