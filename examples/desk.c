@@ -63,7 +63,7 @@ static void print_refusal(const HemokatuAnswered *r) {
     case HEMOKATU_ROOM: puts("the areas are too small"); break;
     case HEMOKATU_KIND: printf("a reference of kind %s is not decoded\n", kind_name(r->a)); break;
     case HEMOKATU_NO_POINTS: puts("the line has no points"); break;
-    case HEMOKATU_NO_CANDIDATE: printf("no road is near enough to point %zu\n", r->a); break;
+    case HEMOKATU_NO_CANDIDATE: printf("no road near point %zu fits it\n", r->a); break;
     case HEMOKATU_NO_PATH: printf("no path from point %zu to point %zu\n", r->a, r->b); break;
     case HEMOKATU_HEAP_USED_UP: printf("a search from point %zu to point %zu needs more than %d heap entries\n", r->a, r->a + 1, HEAP); break;
     default: puts("unknown"); break;

@@ -136,7 +136,7 @@ enum hemokatu_number {
     HEMOKATU_ROOM = 6,           /* an area or an answer list too small */
     HEMOKATU_KIND = 7,           /* neither a line nor a point along line; a: the kind */
     HEMOKATU_NO_POINTS = 8,      /* a line without points */
-    HEMOKATU_NO_CANDIDATE = 9,   /* no road near enough; a: the point */
+    HEMOKATU_NO_CANDIDATE = 9,   /* no road near the point fits it; a: the point */
     HEMOKATU_NO_PATH = 10,       /* no path; a: from this point, b: to this one */
     HEMOKATU_HEAP_USED_UP = 11   /* a search needs a larger heap; a: the leg */
 };
