@@ -44,7 +44,7 @@ static void print_match(const HemokatuAnswered *r, const Areas *w) {
     printf(" behind the start of the first road\nends %.1f m", r->end_offset);
     print_share(r->end_fraction);
     printf(" before the end of the last road\n");
-    printf("most of it, %.1f m, lies on road %" PRIu64 "\n", r->coverage, r->primary);
+    printf("the largest part, %.1f m, is on road %" PRIu64 "\n", r->coverage, r->primary);
 }
 
 static const char *kind_name(size_t kind) {
@@ -84,7 +84,10 @@ static uint8_t *read_file(const char *name, size_t *len) {
         if (!more) free(bytes);
         bytes = more;
     }
-    if (bytes && ferror(f)) free(bytes), bytes = NULL;
+    if (ferror(f)) {
+        free(bytes);
+        bytes = NULL;
+    }
     fclose(f);
     return bytes;
 }

@@ -47,7 +47,7 @@ static void settings(void) {
 }
 
 // A point that looks east, of class and form 3, with one row: it lies `along` metres along road 0.
-static void point(int i, double dnp, uint8_t limit, double along) {
+static void point(size_t i, double dnp, uint8_t limit, double along) {
     size_t at = POINTS_AT + i * HEMOKATU_POINT_SIZE, row = ROWS_AT + i * HEMOKATU_ROW_SIZE;
     put_double(at + HEMOKATU_POINT_DNP, dnp);
     put16(at + HEMOKATU_POINT_BEARING, 90);
