@@ -68,6 +68,7 @@ HemokatuAnswered __wrap_hemokatu_decode(SLICES) {
 HemokatuJudgement __wrap_hemokatu_judge(const uint8_t *sheet, size_t sheet_len) {
     HemokatuJudgement j = __real_hemokatu_judge(sheet, sheet_len);
     if (is("judge-place") && j.number == HEMOKATU_VALUE) j.place++;
+    if (is("judge-lenient") && j.number == HEMOKATU_RULES) j.number = 0;
     return j;
 }
 

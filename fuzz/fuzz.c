@@ -149,7 +149,7 @@ int LLVMFuzzerTestOneInput(const uint8_t *data, size_t size) {
     uint32_t counts[COUNTS] = {0};
     if (size >= sizeof counts) memcpy(counts, data, sizeof counts);
     lend_sheet(&c, data, size);
-    draw_sizes(&c, counts[1] % 17, counts[2] % 1025);
+    draw_sizes(&c, counts[POINTS] % 17, counts[NODES] % 1025);
     HemokatuAnswered r = call_once(&c);
     answered[(r.number * 1021 + r.a * 31 + r.b * 7 + r.count) % sizeof answered] = 1;
     call++;
@@ -159,6 +159,8 @@ int LLVMFuzzerTestOneInput(const uint8_t *data, size_t size) {
 #else
 
 // ---- the run
+
+static uint8_t made[SHEET_ROOM], damaged[SHEET_ROOM];
 
 static void on_signal(int number) {
     char text[160];
@@ -172,7 +174,6 @@ static Size draw_size(void) { return one_in(50000) ? FULL : one_in(100) ? LARGE 
 
 // Calls with one sheet: as it was made, with several sizes of areas, then damaged. Everything is drawn from the seed and the group's number.
 static void call_group(uint64_t group) {
-    static uint8_t made[SHEET_ROOM], damaged[SHEET_ROOM];
     static Lent c;
     draw_from((seed << 40) + group);
     draw_from(draw());
@@ -190,7 +191,7 @@ static void call_group(uint64_t group) {
             now = damage(damaged, len, SHEET_ROOM);
         }
         lend_sheet(&c, i >= GROUP / 2 ? damaged : made, now);
-        draw_sizes(&c, counts[1], counts[2]);
+        draw_sizes(&c, counts[POINTS], counts[NODES]);
         call_once(&c);
     }
 }
@@ -205,6 +206,7 @@ int main(int argc, char **argv) {
     static const int signals[] = {SIGSEGV, SIGBUS, SIGILL, SIGFPE, SIGALRM};
     for (size_t i = 0; i < sizeof signals / sizeof *signals; i++) signal(signals[i], on_signal);
     make_memory();
+    if (!layout_right(made)) stop("the header's layout is not the judge's");
     for (call = first; call < first + count;) {
         call_group(call / GROUP);
         if (call % 1000000 < GROUP) fprintf(stderr, "seed %llu: %llu calls\n", (unsigned long long)seed, (unsigned long long)call);

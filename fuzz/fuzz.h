@@ -11,23 +11,28 @@ uint64_t draw(void);
 uint32_t below(uint32_t n); // 0 to n - 1; 0 for n = 0
 int one_in(uint32_t n);
 
-// ---- sheets.c: well-formed sheets
+// ---- layout.c
 
-enum { COUNTS = 6, SHEET_ROOM = 9 << 20 };
+// the counts, in the header's order
+enum { KIND, POINTS, NODES, ROADS, ROWS, GOALS, COUNTS };
 
 // Where the sections of a sheet begin.
 typedef struct {
     size_t points, roads, lists, numbers, rows, distances, goals, total;
 } Places;
 
-// counts: kind, points, nodes, roads, rows, goals, as in the header
+enum { SHEET_ROOM = 9 << 20 };
+
 Places places_of(const uint32_t counts[COUNTS]);
 void put_header(uint8_t *b, const uint32_t counts[COUNTS]);
+int layout_right(uint8_t *b); // whether the constants of hemokatu.h are the judge's; b: SHEET_ROOM bytes to try it in
+
+// ---- sheets.c
 
 // Small for most calls, up to the greatest counts for a few.
 typedef enum { SMALL, LARGE, FULL } Size;
 
-// Writes a sheet into SHEET_ROOM bytes and gives its length.
+// Writes a well-formed sheet into SHEET_ROOM bytes and gives its length.
 size_t make_sheet(uint8_t *b, Size size);
 
 // ---- damage.c

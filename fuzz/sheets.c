@@ -2,8 +2,6 @@
 #include "fuzz.h"
 #include <string.h>
 
-enum { KIND, POINTS, NODES, ROADS, ROWS, GOALS };
-
 typedef struct {
     double dnp;
     uint16_t bearing;
@@ -83,7 +81,7 @@ static void add_streets(uint8_t frc) {
 static void add_roads_anywhere(uint8_t frc) {
     for (uint32_t k = counts[NODES] ? below(2 * counts[NODES] + 2) : 0; k > 0; k--) {
         uint32_t source = below(counts[NODES]), target = below(counts[NODES]);
-        add_road(source, target, below(361), frc);
+        add_road(source, target, below(HEMOKATU_MOST_BEARING + 1), frc);
     }
 }
 
@@ -136,7 +134,7 @@ static void make_point(uint32_t i, uint8_t frc) {
     Point *p = &point[i];
     p->dnp = 0, p->rows = 0;
     p->frc = class(frc), p->fow = class(3);
-    p->bearing = (uint16_t)below(361);
+    p->bearing = (uint16_t)below(HEMOKATU_MOST_BEARING + 1);
     p->limit = one_in(4) ? (uint8_t)below(8) : HEMOKATU_MOST_CLASS;
     if (counts[ROADS] == 0) return;
     step_to(i);
@@ -167,42 +165,25 @@ static void put16(uint8_t *b, uint16_t v) { memcpy(b, &v, sizeof v); }
 static void put32(uint8_t *b, uint32_t v) { memcpy(b, &v, sizeof v); }
 static void put_double(uint8_t *b, double v) { memcpy(b, &v, sizeof v); }
 
-Places places_of(const uint32_t c[COUNTS]) {
-    Places at;
-    size_t nodes = c[NODES];
-    at.points = HEMOKATU_HEADER_SIZE + HEMOKATU_SETTINGS_SIZE;
-    at.roads = at.points + (size_t)c[POINTS] * HEMOKATU_POINT_SIZE;
-    at.lists = at.roads + (size_t)c[ROADS] * HEMOKATU_ROAD_SIZE;
-    at.numbers = at.lists + (nodes + 1) * HEMOKATU_LIST_ENTRY_SIZE;
-    at.rows = at.numbers + (size_t)c[ROADS] * HEMOKATU_LIST_ENTRY_SIZE;
-    at.distances = at.rows + (size_t)c[ROWS] * HEMOKATU_ROW_SIZE;
-    at.goals = at.distances + 2 * nodes * HEMOKATU_DISTANCE_SIZE;
-    at.total = at.goals + (size_t)c[GOALS] * (HEMOKATU_GOAL_DISTANCES + nodes * HEMOKATU_DISTANCE_SIZE);
-    return at;
-}
-
-void put_header(uint8_t *b, const uint32_t c[COUNTS]) {
-    Places at = places_of(c);
-    memcpy(b, c, 4 * COUNTS);
-    put32(b + HEMOKATU_HEADER_SETTINGS_AT, HEMOKATU_HEADER_SIZE);
-    put32(b + HEMOKATU_HEADER_POINTS_AT, (uint32_t)at.points);
-    put32(b + HEMOKATU_HEADER_ROADS_AT, (uint32_t)at.roads);
-    put32(b + HEMOKATU_HEADER_LISTS_AT, (uint32_t)at.lists);
-    put32(b + HEMOKATU_HEADER_ROWS_AT, (uint32_t)at.rows);
-    put32(b + HEMOKATU_HEADER_DISTANCES_AT, (uint32_t)at.distances);
-    put32(b + HEMOKATU_HEADER_TOTAL, (uint32_t)at.total);
-    put32(b + HEMOKATU_HEADER_ZERO, 0);
-}
-
+// the defaults, or more of what a match asks for
 static void put_settings(uint8_t *b) {
-    double values[] = HEMOKATU_DEFAULT_SETTINGS;
     int loose = one_in(2), usual = one_in(2);
-    if (loose) {
-        values[HEMOKATU_SETTINGS_MOST_BEARING_DIFFERENCE / 8] = 180;
-        values[HEMOKATU_SETTINGS_MOST_CANDIDATE_DISTANCE / 8] = 200;
-        values[HEMOKATU_SETTINGS_ABSOLUTE_TOLERANCE / 8] = 1000;
-    }
-    for (size_t i = 0; i < sizeof values / 8; i++) put_double(b + 8 * i, amount(values[i]));
+    double bearing_difference = loose ? 180 : HEMOKATU_DEFAULT_MOST_BEARING_DIFFERENCE;
+    double candidate_distance = loose ? 200 : HEMOKATU_DEFAULT_MOST_CANDIDATE_DISTANCE;
+    double tolerance = loose ? 1000 : HEMOKATU_DEFAULT_ABSOLUTE_TOLERANCE;
+    put_double(b + HEMOKATU_SETTINGS_SEARCH_RADIUS, amount(HEMOKATU_DEFAULT_SEARCH_RADIUS));
+    put_double(b + HEMOKATU_SETTINGS_MOST_BEARING_DIFFERENCE, amount(bearing_difference));
+    put_double(b + HEMOKATU_SETTINGS_MOST_CANDIDATE_DISTANCE, amount(candidate_distance));
+    put_double(b + HEMOKATU_SETTINGS_DISTANCE_WEIGHT, amount(HEMOKATU_DEFAULT_DISTANCE_WEIGHT));
+    put_double(b + HEMOKATU_SETTINGS_BEARING_WEIGHT, amount(HEMOKATU_DEFAULT_BEARING_WEIGHT));
+    put_double(b + HEMOKATU_SETTINGS_FRC_WEIGHT, amount(HEMOKATU_DEFAULT_FRC_WEIGHT));
+    put_double(b + HEMOKATU_SETTINGS_FOW_WEIGHT, amount(HEMOKATU_DEFAULT_FOW_WEIGHT));
+    put_double(b + HEMOKATU_SETTINGS_LENGTH_TOLERANCE, amount(HEMOKATU_DEFAULT_LENGTH_TOLERANCE));
+    put_double(b + HEMOKATU_SETTINGS_ABSOLUTE_TOLERANCE, amount(tolerance));
+    put_double(b + HEMOKATU_SETTINGS_SEARCH_FACTOR, amount(HEMOKATU_DEFAULT_SEARCH_FACTOR));
+    put_double(b + HEMOKATU_SETTINGS_SLIP_PENALTY, amount(HEMOKATU_DEFAULT_SLIP_PENALTY));
+    put_double(b + HEMOKATU_SETTINGS_ACCESS_PENALTY, amount(HEMOKATU_DEFAULT_ACCESS_PENALTY));
+    put_double(b + HEMOKATU_SETTINGS_SNAP_EXTENSION, amount(HEMOKATU_DEFAULT_SNAP_EXTENSION));
     b[HEMOKATU_SETTINGS_FRC_TOLERANCE] = usual ? HEMOKATU_DEFAULT_FRC_TOLERANCE : one_in(4) ? (uint8_t)draw() : (uint8_t)below(8);
     b[HEMOKATU_SETTINGS_SNAP] = (uint8_t)below(2);
     put16(b + HEMOKATU_SETTINGS_MOST_CANDIDATES, (uint16_t)(usual ? HEMOKATU_DEFAULT_MOST_CANDIDATES : below(HEMOKATU_MOST_CANDIDATES + 1)));
