@@ -1,4 +1,5 @@
-// Writes sheet S1, a line of two points on one road, to standard output: how a host lays out a sheet. x86-64 is little-endian, so values are copied as they are.
+// Writes sheet S1, a line of two points on one road, to standard output: how a host lays out a sheet.
+// x86-64 is little-endian, so values are copied as they are.
 #include "../include/hemokatu.h"
 #include <stdio.h>
 #include <string.h>
