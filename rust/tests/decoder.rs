@@ -1,0 +1,109 @@
+//! The areas: kept, grown, and without a part in the answer.
+
+mod common;
+
+use common::{chain, misleading, s1, sample, text};
+use hemokatu::{Decoder, Match, Refusal, Sizes};
+
+fn send<T: Send + 'static>() {}
+
+#[test]
+fn a_decoder_goes_to_another_thread() {
+    send::<Decoder>();
+    send::<Match<'static>>();
+    send::<Refusal>();
+}
+
+#[test]
+fn earlier_sheets_have_no_part() {
+    let mut sheets: Vec<Vec<u8>> = ["s1", "s2", "s3", "s4"].map(sample).to_vec();
+    sheets.extend([3, 40, 1000, 5].map(|roads| chain(roads).build().unwrap()));
+    let alone = |sheet: &Vec<u8>| text(&Decoder::new().decode(sheet));
+    let expected: Vec<String> = sheets.iter().map(alone).collect();
+    let mut kept = Decoder::new();
+    for first in 0..sheets.len() {
+        for second in 0..sheets.len() {
+            for i in [first, second] {
+                assert_eq!(
+                    text(&kept.decode(&sheets[i])),
+                    expected[i],
+                    "{first} {second}"
+                );
+            }
+        }
+    }
+}
+
+#[test]
+fn threads_with_a_decoder_each() {
+    let sheets = [3, 200, 17].map(|roads| chain(roads).build().unwrap());
+    let all = || {
+        let mut decoder = Decoder::new();
+        sheets.each_ref().map(|sheet| text(&decoder.decode(sheet)))
+    };
+    let answers = std::thread::scope(|scope| {
+        let threads: Vec<_> = (0..4).map(|_| scope.spawn(all)).collect();
+        let join = |thread: std::thread::ScopedJoinHandle<'_, _>| thread.join().unwrap();
+        threads.into_iter().map(join).collect::<Vec<_>>()
+    });
+    assert!(answers.iter().all(|answer| *answer == all()));
+}
+
+#[test]
+fn the_heap_grows() {
+    let sheet = chain(1000).build().unwrap();
+    let mut large = Decoder::new();
+    let mut grown = Decoder::with_heap(1);
+    let found = grown.decode(&sheet).unwrap();
+    assert_eq!(found, large.decode(&sheet).unwrap());
+    // Half a road at either end is too little of this leg to be kept.
+    assert!(found.ids.iter().copied().eq(701..1699));
+    assert!(grown.heap() > 1);
+}
+
+#[test]
+fn the_heap_has_a_limit() {
+    let sheet = chain(3).build().unwrap();
+    let refused = Err(Refusal::HeapUsedUp { leg: 0 });
+    assert_eq!(Decoder::with_heap_limit(1).decode(&sheet), refused);
+    assert_eq!(Decoder::with_heap_limit(0).decode(&sheet), refused);
+    assert!(Decoder::with_heap_limit(2).decode(&sheet).is_ok());
+    assert_eq!(Decoder::with_heap_limit(2).heap(), 2);
+    assert_eq!(Decoder::with_heap(0).heap(), 1);
+}
+
+#[test]
+fn a_search_that_is_misled_gets_a_larger_heap() {
+    let sheet = misleading(12).build().unwrap();
+    let mut decoder = Decoder::new();
+    let first = decoder.heap();
+    assert_eq!(decoder.decode(&sheet).unwrap().ids, [701]);
+    assert!(decoder.heap() > first);
+    let refused = Err(Refusal::HeapUsedUp { leg: 0 });
+    assert_eq!(Decoder::with_heap_limit(first).decode(&sheet), refused);
+}
+
+#[test]
+fn hostile_headers_are_refused() {
+    let mut decoder = Decoder::new();
+    assert_eq!(decoder.decode(&[]), Err(Refusal::Short));
+    assert_eq!(decoder.decode(&[255; 55]), Err(Refusal::Short));
+    assert_eq!(decoder.decode(&[255; 56]), Err(Refusal::Counts));
+    let mut large = s1().build().unwrap();
+    for (at, count) in [(4, 16u32), (8, 1024), (12, 4096), (16, 1024), (20, 1024)] {
+        large[at..at + 4].copy_from_slice(&count.to_le_bytes());
+    }
+    assert_eq!(decoder.decode(&large), Err(Refusal::Layout));
+}
+
+#[test]
+fn sizes() {
+    let full = Sizes::of(16, 1024).unwrap();
+    assert_eq!((full.node, full.route, full.list), (1024, 1025, 20 * 1025));
+    let entries = 3 * 1024 + 2 * 1025 + 4 * 4097 + 4 * 20 * 1025;
+    assert_eq!(full.bytes(4097), 8 * entries);
+    assert_eq!(Sizes::of(0, 0).unwrap().list, 4);
+    assert_eq!(Sizes::of(17, 0), None);
+    assert_eq!(Sizes::of(0, 1025), None);
+    assert_eq!(Sizes::of(usize::MAX, usize::MAX), None);
+}
