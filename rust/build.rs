@@ -14,6 +14,7 @@ fn main() {
         Some(folder) => named(folder.into()),
         None => of_repository(),
     };
+    let folder = folder.canonicalize().unwrap_or(folder);
     let folder = folder.display();
     println!("cargo:rerun-if-changed={folder}/{LIBRARY}");
     println!("cargo:rustc-link-search=native={folder}");

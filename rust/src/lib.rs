@@ -45,3 +45,8 @@ pub use decoder::{judge, Decoder, Sizes};
 pub use layout::field_at;
 pub use parts::{Kind, PathEntry, Point, Road, Row, Settings};
 pub use refusal::Refusal;
+
+/// Runs the example of the page for feed servers.
+#[cfg(doctest)]
+#[doc = include_str!("../../docs/FEED_SERVER.md")]
+struct FeedServer;

@@ -84,21 +84,21 @@ pub struct Settings {
     pub frc_weight: f64,
     /// Weight of the form of way. 0.1.
     pub fow_weight: f64,
-    /// By what part of its DNP a leg may differ from it. 0.35.
+    /// By what part of its DNP a leg may differ from it; the looser of this and the next holds. 0.35.
     pub length_tolerance: f64,
-    /// By how many metres it may differ at any rate. 100.
+    /// By how many metres a leg may differ from its DNP. 100.
     pub absolute_length_tolerance: f64,
-    /// How many times its DNP a leg is searched. 2.
+    /// A leg is searched up to this multiple of its DNP, and at least 500 m. 2.
     pub max_search_distance_factor: f64,
     /// Metres that a slip road costs a search beside its length. 20.
     pub slip_road_cost_penalty: f64,
     /// Metres that an access road costs a search beside its length. 10.
     pub access_road_cost_penalty: f64,
-    /// How far an end is walked on to a valid node. 25.
+    /// The most metres that an end is walked on to a valid node. 25.
     pub max_snap_extension_m: f64,
     /// By how many classes a candidate may differ from its point, and by how many a leg's limit is raised. 2.
     pub frc_tolerance: u8,
-    /// Whether ends are walked on to valid nodes. true.
+    /// Whether ends are walked on to valid nodes; if not, only by roads of length 0. true.
     pub snap_to_valid_nodes: bool,
     /// How many candidates of a point are kept, up to 64. 10.
     pub max_candidates: u16,

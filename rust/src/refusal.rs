@@ -16,6 +16,7 @@ use std::fmt;
 /// assert_eq!(refusal.to_string(), "no path from point 2 to point 3");
 /// ```
 #[derive(Debug, Clone, Copy, PartialEq, Eq, Hash)]
+#[non_exhaustive]
 pub enum Refusal {
     /// 1: under 56 bytes.
     Short,

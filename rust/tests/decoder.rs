@@ -74,13 +74,17 @@ fn the_heap_has_a_limit() {
 
 #[test]
 fn a_search_that_is_misled_gets_a_larger_heap() {
-    let sheet = misleading(12).build().unwrap();
-    let mut decoder = Decoder::new();
-    let first = decoder.heap();
-    assert_eq!(decoder.decode(&sheet).unwrap().ids, [701]);
-    assert!(decoder.heap() > first);
-    let refused = Err(Refusal::HeapUsedUp { leg: 0 });
-    assert_eq!(Decoder::with_heap_limit(first).decode(&sheet), refused);
+    let first = Decoder::new().heap();
+    for (turns, bytes, doublings) in [(12, 2496, 2), (18, 3480, 8)] {
+        let sheet = misleading(turns).build().unwrap();
+        assert_eq!(sheet.len(), bytes);
+        let mut decoder = Decoder::new();
+        assert_eq!(decoder.decode(&sheet).unwrap().ids, [701]);
+        let before = first << (doublings - 1);
+        assert!(decoder.heap() > before);
+        let refused = Err(Refusal::HeapUsedUp { leg: 0 });
+        assert_eq!(Decoder::with_heap_limit(before).decode(&sheet), refused);
+    }
 }
 
 #[test]
@@ -100,8 +104,9 @@ fn hostile_headers_are_refused() {
 fn sizes() {
     let full = Sizes::of(16, 1024).unwrap();
     assert_eq!((full.node, full.route, full.list), (1024, 1025, 20 * 1025));
-    let entries = 3 * 1024 + 2 * 1025 + 4 * 4097 + 4 * 20 * 1025;
-    assert_eq!(full.bytes(4097), 8 * entries);
+    let first_heap = Decoder::new().heap();
+    assert_eq!(full.bytes(first_heap), 828_080);
+    assert_eq!(Sizes::of(2, 100).unwrap().bytes(first_heap), 154_512);
     assert_eq!(Sizes::of(0, 0).unwrap().list, 4);
     assert_eq!(Sizes::of(17, 0), None);
     assert_eq!(Sizes::of(0, 1025), None);
