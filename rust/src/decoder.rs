@@ -92,7 +92,7 @@ impl Default for Decoder {
 }
 
 impl Decoder {
-    /// A decoder with the heap that most searches fit in. It allocates when it decodes.
+    /// A decoder with a first heap of 4,097 slots. It allocates when it decodes.
     pub fn new() -> Decoder {
         Decoder::default()
     }
