@@ -1,23 +1,47 @@
 //! Refusals 1 to 6, read from the scope: "The sheet" and "When nothing is matched".
 
+mod order;
+
+pub(crate) use order::broken_rule;
 use sheets::Areas;
 
 /// "Every f64 has its sign bit clear and is at most 10,000,000."
 const MOST: f64 = 10_000_000.0;
 
 /// The first header words and where the sections begin.
-struct Head {
-    kind: usize,
-    points: usize,
-    nodes: usize,
-    roads: usize,
-    rows: usize,
-    goals: usize,
+pub(crate) struct Head {
+    pub kind: usize,
+    pub points: usize,
+    pub nodes: usize,
+    pub roads: usize,
+    pub rows: usize,
+    pub goals: usize,
 }
 
+/// The greatest number of points, nodes, roads, rows and goal rows.
+pub(crate) const LIMITS: [usize; 5] = [16, 1024, 4096, 1024, 1024];
+
 impl Head {
+    /// Of 56 bytes or more.
+    pub fn of(bytes: &[u8]) -> Head {
+        let [kind, points, nodes, roads, rows, goals] = std::array::from_fn(|i| word(bytes, 4 * i));
+        Head {
+            kind,
+            points,
+            nodes,
+            roads,
+            rows,
+            goals,
+        }
+    }
+
+    /// Those that have limits.
+    pub fn counts(&self) -> [usize; 5] {
+        [self.points, self.nodes, self.roads, self.rows, self.goals]
+    }
+
     /// The offsets of settings, points, roads, lists, rows and distances, and the total.
-    fn sections(&self) -> [usize; 7] {
+    pub fn sections(&self) -> [usize; 7] {
         let settings = 56;
         let points = settings + 112;
         let roads = points + 24 * self.points;
@@ -29,7 +53,7 @@ impl Head {
     }
 }
 
-fn word(bytes: &[u8], at: usize) -> usize {
+pub(crate) fn word(bytes: &[u8], at: usize) -> usize {
     u32::from_le_bytes(bytes[at..at + 4].try_into().unwrap()) as usize
 }
 
@@ -38,24 +62,17 @@ pub fn refusal(bytes: &[u8], areas: &Areas) -> Option<(usize, usize)> {
     if bytes.len() < 56 {
         return Some((1, 0));
     }
-    let head = Head {
-        kind: word(bytes, 0),
-        points: word(bytes, 4),
-        nodes: word(bytes, 8),
-        roads: word(bytes, 12),
-        rows: word(bytes, 16),
-        goals: word(bytes, 20),
-    };
+    let head = Head::of(bytes);
     if above_a_limit(&head) {
         return Some((2, 0));
     }
-    if !laid_out(bytes, &head) {
+    if !wrong_layout(bytes, &head).is_empty() {
         return Some((3, 0));
     }
     if let Err(place) = Walk::over(bytes, &head) {
         return Some((4, place));
     }
-    if !in_order(bytes, &head) {
+    if broken_rule(bytes, &head).is_some() {
         return Some((5, 0));
     }
     if too_small(&head, areas) {
@@ -65,19 +82,33 @@ pub fn refusal(bytes: &[u8], areas: &Areas) -> Option<(usize, usize)> {
 }
 
 fn above_a_limit(h: &Head) -> bool {
-    let counts = [h.points, h.nodes, h.roads, h.rows, h.goals];
-    let limits = [16, 1024, 4096, 1024, 1024];
-    counts
-        .iter()
-        .zip(limits)
-        .any(|(count, limit)| *count > limit)
-        || (h.kind == 2 && h.points != 2)
+    let above = |(count, limit): (usize, usize)| count > limit;
+    h.counts().into_iter().zip(LIMITS).any(above) || (h.kind == 2 && h.points != 2)
 }
 
-fn laid_out(bytes: &[u8], h: &Head) -> bool {
+/// What is wrong of offsets, total, length and final zero, in words.
+pub(crate) fn wrong_layout(bytes: &[u8], h: &Head) -> Vec<&'static str> {
+    const NAMES: [&str; 7] = [
+        "settings",
+        "points",
+        "roads",
+        "lists",
+        "rows",
+        "distances",
+        "total",
+    ];
     let sections = h.sections();
-    let named: Vec<usize> = (6..13).map(|i| word(bytes, 4 * i)).collect();
-    named == sections && sections[6] == bytes.len() && word(bytes, 52) == 0
+    let mut wrong: Vec<&str> = (0..7)
+        .filter(|i| word(bytes, 24 + 4 * i) != sections[*i])
+        .map(|i| NAMES[i])
+        .collect();
+    if sections[6] != bytes.len() {
+        wrong.push("length");
+    }
+    if word(bytes, 52) != 0 {
+        wrong.push("final zero");
+    }
+    wrong
 }
 
 fn too_small(h: &Head, areas: &Areas) -> bool {
@@ -191,73 +222,4 @@ impl Walk<'_> {
     fn spare(&mut self, count: usize) -> Passed {
         (0..count).try_for_each(|_| self.byte(|b| b == 0))
     }
-}
-
-/// The rules of refusal 5 on a sheet whose fields are all in range.
-fn in_order(bytes: &[u8], h: &Head) -> bool {
-    let [_, points, roads, lists, rows, distances, _] = h.sections();
-    let source = |road: usize| word(bytes, roads + 32 * road + 16);
-    let starts: Vec<usize> = (0..h.nodes + 1)
-        .map(|i| word(bytes, lists + 4 * i))
-        .collect();
-    let numbers = lists + 4 * (h.nodes + 1);
-    let listed: Vec<usize> = (0..h.roads).map(|i| word(bytes, numbers + 4 * i)).collect();
-    if !starts_rise(&starts, h.roads) || !each_road_once(&starts, &listed, source) {
-        return false;
-    }
-    let counts: Vec<usize> = (0..h.points)
-        .map(|i| word(bytes, points + 24 * i + 16))
-        .collect();
-    if counts.iter().sum::<usize>() != h.rows {
-        return false;
-    }
-    let goal_size = 8 + 8 * h.nodes;
-    let first_goal = distances + 16 * h.nodes;
-    let goals: Vec<usize> = (0..h.goals)
-        .map(|i| word(bytes, first_goal + goal_size * i))
-        .collect();
-    let named: Vec<usize> = (0..h.rows).map(|i| word(bytes, rows + 40 * i)).collect();
-    rising(&goals) && rows_rise_to_goals(&counts, &named, &goals, source)
-}
-
-/// "first 0, last E, never falling"
-fn starts_rise(starts: &[usize], roads: usize) -> bool {
-    starts[0] == 0 && starts[starts.len() - 1] == roads && starts.windows(2).all(|w| w[0] <= w[1])
-}
-
-/// "each in its source's part once"
-fn each_road_once(starts: &[usize], listed: &[usize], source: impl Fn(usize) -> usize) -> bool {
-    let mut seen = vec![false; listed.len()];
-    for node in 0..starts.len() - 1 {
-        for road in &listed[starts[node]..starts[node + 1]] {
-            if source(*road) != node || seen[*road] {
-                return false;
-            }
-            seen[*road] = true;
-        }
-    }
-    seen.iter().all(|s| *s)
-}
-
-fn rising(numbers: &[usize]) -> bool {
-    numbers.windows(2).all(|w| w[0] < w[1])
-}
-
-/// Roads rise within a point, and the source of each road named after the first point's rows has a goal row.
-fn rows_rise_to_goals(
-    counts: &[usize],
-    named: &[usize],
-    goals: &[usize],
-    source: impl Fn(usize) -> usize,
-) -> bool {
-    let mut rest = named;
-    for (point, count) in counts.iter().enumerate() {
-        let (own, others) = rest.split_at(*count);
-        rest = others;
-        let has_goal = |road: &usize| goals.contains(&source(*road));
-        if !rising(own) || (point > 0 && !own.iter().all(has_goal)) {
-            return false;
-        }
-    }
-    true
 }

@@ -3,7 +3,10 @@
 pub mod answer;
 pub mod call;
 pub mod cases;
+pub mod classes;
+pub mod endless;
 pub mod judge;
+pub mod stored;
 
 pub use answer::{Answer, Match, Outcome};
 pub use call::{call, lend_reference, Decoded, Original};

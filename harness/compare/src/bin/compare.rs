@@ -1,4 +1,4 @@
-//! compare KIND COUNT [SEED [first]]: the port against the oracle on COUNT sheets, of seeds from SEED (1) on; with `first` up to the first difference.
+//! compare KIND COUNT [SEED [first]]: the port against the oracle on COUNT sheets, of seeds from SEED (1) on; with `first` up to the first difference, which is not shown, or to a sheet without an end, for which the status is 124.
 //! KIND: well-formed, damaged, full; or pairs, for sheets that are alike but for closed roads.
 //! compare sizes: the least areas of all counts.
 
@@ -7,6 +7,7 @@ use compare::port::{least_areas, Port};
 use compare::shrink::{difference, shrink};
 use compare::tally::Tally;
 use oracle::cases::{case, Case, Kind};
+use oracle::endless;
 use oracle::{Answer, Outcome};
 use sheets::{families, words, Areas, Random, Sheet};
 
@@ -41,7 +42,12 @@ fn compare(kind: Kind, name: &str, seeds: std::ops::Range<u64>, to_the_first: bo
     let mut port = Port::new();
     let mut tally = Tally::default();
     let mut worst: Option<Worst> = None;
+    if to_the_first {
+        endless::begin(seeds.start);
+        endless::watch(|_| std::process::exit(124));
+    }
     for seed in seeds {
+        endless::begin(seed);
         let case = case(kind, seed);
         tally.add(case.family, &case.expected, &case.bytes);
         let found = difference(&mut port, &case.bytes, &case.areas, &case.expected);
@@ -63,7 +69,7 @@ fn compare(kind: Kind, name: &str, seeds: std::ops::Range<u64>, to_the_first: bo
         }
     }
     println!("{name} sheets: {tally}");
-    if let Some(w) = &worst {
+    if let Some(w) = worst.as_ref().filter(|_| !to_the_first) {
         println!("{}", describe(&mut port, w));
     }
     worst.is_none()
