@@ -1,5 +1,6 @@
-// Replays a fixed list of cases: decodes the sheet of each and compares the answer and both answer lists, bit for bit, with the stored ones.
-// The stored answers are the original Rust's where it has one. Refusals 1 to 7 were judged apart from it by reading the scope; for refusal 11 the entries of the Rust's heap were counted.
+// Replays two fixed lists of cases: decodes the sheet of each and compares the answer and both answer lists, bit for bit, with the stored ones.
+// The stored answers are those of the oracle in harness/: the original Rust unchanged, refusals 1 to 6 by a reading of the scope apart from ours, refusal 11 by the counted entries of the Rust's heap.
+// changes.bin has sheets that notice a change in the Rust, classes.bin one of every class of answers and refusals; harness/README.md says how they were chosen.
 mod areas;
 mod call;
 mod compare;
@@ -16,10 +17,15 @@ fn print_tally(t: Tally) {
 }
 
 // A missing file counts as an empty one. Of one that is too large the part read is replayed, and a case that reaches past it differs.
-fn main() {
+fn replay_file(path: &[u8]) {
     let mut file = [0u8; 393216];
-    let from = os::open_read(b"cases.bin");
+    let from = os::open_read(path);
     let n = io::read_full(from, &mut file);
     libc::close(from);
     print_tally(list::replay(&file[..n]));
+}
+
+fn main() {
+    replay_file(b"changes.bin");
+    replay_file(b"classes.bin");
 }
