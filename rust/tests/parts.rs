@@ -108,11 +108,11 @@ fn parts(sheet: &[u8]) -> SheetBuilder {
 
 #[test]
 fn stored_sheets_from_their_parts() {
-    let file = cases::file();
+    let files = cases::files();
     let mut built = 0;
-    for case in cases::all(&file).filter(|case| judge(case.sheet()).is_ok()) {
+    for case in cases::all(&files).filter(|case| judge(case.sheet()).is_ok()) {
         assert_eq!(parts(case.sheet()).build().unwrap(), case.sheet());
         built += 1;
     }
-    assert!(built > 300, "{built} sheets");
+    assert!(built > 600, "{built} sheets");
 }

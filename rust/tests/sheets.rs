@@ -66,11 +66,11 @@ fn every_changed_byte_is_answered() {
 
 #[test]
 fn replayed_cases() {
-    let file = cases::file();
+    let files = cases::files();
     let (mut kept, mut one_slot) = (Decoder::new(), Decoder::with_heap(1));
     let mut compared = 0;
     // Of areas that are too small a decoder has none.
-    for case in cases::all(&file).filter(|case| case.number() != 6) {
+    for case in cases::all(&files).filter(|case| case.number() != 6) {
         let mut limited = Decoder::with_heap_limit(case.heap());
         assert_eq!(text(&limited.decode(case.sheet())), case.text());
         let whole = text(&kept.decode(case.sheet()));
@@ -80,5 +80,5 @@ fn replayed_cases() {
         assert_eq!(text(&one_slot.decode(case.sheet())), whole);
         compared += 1;
     }
-    assert!(compared > 400, "{compared} cases");
+    assert!(compared > 1000, "{compared} cases");
 }

@@ -1,18 +1,19 @@
 //! The stored cases of crate `replay`, as crates/replay/src/record.rt lays them out.
 
-pub fn file() -> Vec<u8> {
-    let path = concat!(
-        env!("CARGO_MANIFEST_DIR"),
-        "/../crates/replay/data/cases.bin"
-    );
-    std::fs::read(path).unwrap()
+pub fn files() -> [Vec<u8>; 2] {
+    ["changes.bin", "classes.bin"].map(|name| {
+        let data = concat!(env!("CARGO_MANIFEST_DIR"), "/../crates/replay/data");
+        std::fs::read(format!("{data}/{name}")).unwrap()
+    })
 }
 
-pub fn all(file: &[u8]) -> impl Iterator<Item = Case<'_>> {
-    let count = Case { file, at: 0 }.u32(0);
-    (0..count).map(move |i| Case {
-        file,
-        at: 4 + 56 * i,
+pub fn all(files: &[Vec<u8>]) -> impl Iterator<Item = Case<'_>> {
+    files.iter().flat_map(|file| {
+        let count = Case { file, at: 0 }.u32(0);
+        (0..count).map(move |i| Case {
+            file,
+            at: 4 + 56 * i,
+        })
     })
 }
 
