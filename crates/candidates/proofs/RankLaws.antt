@@ -22,13 +22,15 @@ use Rattle.model.specs.Sheet.{point-of, row-of, sheet-of}
 use Rattle.model.specs.View.{spot-of}
 use Rattle.model.specs.Candidates.{candidate-of, candidate, better, passes}
 use Rattle.model.proofs.Members.{getD-map, map-take, map-insert, in-getD, in-take, Every, every-none}
+use Rattle.model.proofs.Fields.{count-most}
+use Rattle.model.proofs.RowSums.{before-next, before-le}
 use Rattle.bounds.proofs.Sources.{when-some}
 use Rattle.bounds.proofs.Choices.{below-or-not}
 use Rattle.bounds.proofs.Shifted.{Moved, put-in}
 use Rattle.candidates.specs.declared.rank.Rank.{Rank}
 use Rattle.candidates.specs.declared.rank.Ranks.{Ranks}
 use Rattle.candidates.specs.Found.{candidates-at, OnSheet, no-candidate, Found}
-use Rattle.candidates.specs.Ranking.{row-measured, rank-of, ahead, no-rank, Ranked}
+use Rattle.candidates.specs.Ranking.{row-measured, rank-of, ahead, no-rank, Ranked, count-place, Rows64, Written, RanksAt, RanksTo}
 use Rattle.candidates.proofs.Sorted.{Orders, Ordered, every-insert, insert-ordered, insert-at}
 use Rattle.candidates.proofs.Ranked.{Scored, better-orders}
 use Rattle.candidates.proofs.Gathered.{sorted, row-candidate, row-facts, cut-is, candidates-facts}
@@ -124,34 +126,35 @@ module _ (s : List ℕ) (c : Counts) (i : ℕ) where
           ∙ rw inv (sym (rw (add-one k, ranked, e)))
 
     -- what is cut to the most candidates
-    found : (r : Ranks) → r .count ≤ 64 → length (r .items) ≡ 64
+    found : (r : Ranks) → r .count ≤ 64 → r .count ≤ row-count s i → length (r .items) ≡ 64
         → take (r .count) (r .items) ≡ take (sheet-of s c .settings .«max_candidates») (ranked s c i (row-count s i)) → Ranked s c i r
-    found r few long e =
+    found r few within long e =
         let f = facts (row-count s i) (omega arith) in
         let most = sheet-of s c .settings .«max_candidates» in
         record {
           are = ap (map standing) e ∙ map-take standing most (ranked s c i (row-count s i)) ∙ ap (take most) (f .are) ∙ cut-is s c i h;
           long = long;
           few = few;
+          within = within;
           rows = λ k l.
               let inside = in-getD (take (r .count) (r .items)) k no-rank (omega (arith, length-take-le (r .count) (r .items) (omega arith))) in
               let there = subst (In (getD (r .items) k no-rank)) e (rw (getD-take (r .count) (r .items) k no-rank l) at inside) in
               f .owns _ (in-take most (ranked s c i (row-count s i)) there) .row;
         }
 
-    module _ (set : Settings) (es : set ≡ sheet-of s c .settings) (xs : List Rank) (long : length xs ≡ 64) (n : ℕ) (few : n ≤ 64)
+    module _ (set : Settings) (es : set ≡ sheet-of s c .settings) (xs : List Rank) (long : length xs ≡ 64) (n : ℕ) (few : n ≤ 64) (within : n ≤ row-count s i)
         (e : take n xs ≡ ranked s c i (row-count s i)) where
       most : set .«max_candidates» ≡ sheet-of s c .settings .«max_candidates»
       most = ap (λ (x : Settings). x .«max_candidates») es
 
       pub found-most : set .«max_candidates» < n → Ranked s c i (record { items = xs; count = set .«max_candidates» })
-      found-most g = found (record { items = xs; count = set .«max_candidates» }) (omega arith) long
+      found-most g = found (record { items = xs; count = set .«max_candidates» }) (omega arith) (omega arith) long
           (sym (take-take (set .«max_candidates») n xs (omega arith)) ∙ ap (take (set .«max_candidates»)) e ∙ ap (λ (z : ℕ). take z (ranked s c i (row-count s i))) most)
 
       pub found-all : n ≤ set .«max_candidates» → Ranked s c i (record { items = xs; count = n })
       found-all g =
           let m = sheet-of s c .settings .«max_candidates» in
-          found (record { items = xs; count = n }) few long (sym (take-all m (take n xs) (omega (arith, most, length-take-le n xs (omega arith)))) ∙ ap (take m) e)
+          found (record { items = xs; count = n }) few within long (sym (take-all m (take n xs) (omega (arith, most, length-take-le n xs (omega arith)))) ∙ ap (take m) e)
 
 -- ---- from the ranks back to the candidates
 
@@ -174,28 +177,101 @@ module _ (s : List ℕ) (c : Counts) (i : ℕ) (r : Ranks) (f : Ranked s c i r) 
   unfolding row-measured candidate-of
   distance-at k l w e = ap (λ (x : Row). x .distance) e ∙ ap (λ (x : Candidate). x .distance) (standing-at k l)
 
+-- ---- writing the ranks of a point
+
+-- the first k of them are written, from `first` on
+pub record Partly (ranks₀ ranks : List ℕ) (first : ℕ) (x : Ranks) (k : ℕ) : Type 0 where
+  pub rows : (j : ℕ) → j < k → getD ranks (first + j) 0 ≡ getD (x .items) j no-rank .row
+  pub earlier : (j : ℕ) → j < first → getD ranks j 0 ≡ getD ranks₀ j 0
+  pub counts : (j : ℕ) → 1024 ≤ j → getD ranks j 0 ≡ getD ranks₀ j 0
+
+module _ (ranks₀ : List ℕ) (first : ℕ) (x : Ranks) where
+  pub partly-none : Partly ranks₀ ranks₀ first x 0
+  partly-none = record { rows = λ j h. absurd (omega arith); earlier = λ j h. refl; counts = λ j h. refl }
+
+  module _ (ranks : List ℕ) (k : ℕ) (w : Partly ranks₀ ranks first x k) where
+    pub partly-more : first + k < 1024 → first + k < length ranks → Partly ranks₀ (set ranks (first + k) (getD (x .items) k no-rank .row)) first x (k + 1)
+    partly-more low fit =
+        let v = getD (x .items) k no-rank .row in
+        record {
+          rows = λ j h. ⊎-elim
+              (λ (g : j < k). getD-set-other ranks (first + k) (first + j) v 0 (λ e. omega arith) ∙ w .rows j g)
+              (λ (g : k ≤ j). let same : j ≡ k = omega arith in rw same (getD-set-same ranks (first + k) v 0 fit))
+              (below-or-not j k);
+          earlier = λ j h. getD-set-other ranks (first + k) j v 0 (λ e. omega arith) ∙ w .earlier j h;
+          counts = λ j h. getD-set-other ranks (first + k) j v 0 (λ e. omega arith) ∙ w .counts j h;
+        }
+
+    -- all of them, and their count
+    pub all-written : (i : ℕ) → k ≡ x .count → first + x .count ≤ 1024 → count-place i < length ranks → Written ranks₀ (set ranks (count-place i) (x .count)) i first x
+    all-written i e low fit = record {
+      rows = λ j h. getD-set-other ranks (count-place i) (first + j) (x .count) 0 (λ e. omega arith) ∙ w .rows j (omega arith);
+      count = getD-set-same ranks (count-place i) (x .count) 0 fit;
+      earlier = λ j h. getD-set-other ranks (count-place i) j (x .count) 0 (λ e. omega arith) ∙ w .earlier j h;
+      others = λ j h. getD-set-other ranks (count-place i) (count-place j) (x .count) 0 (λ e. omega arith) ∙ w .counts (count-place j) (omega arith);
+    }
+
+-- ---- the ranks of all points
+
+module _ (s : List ℕ) (c : Counts) where
+  -- the ranks of a point, just written
+  pub ranks-written : (i : ℕ) (x : Ranks) → Ranked s c i x → (ranks₀ ranks : List ℕ) → Written ranks₀ ranks i (rows-before s i) x → RanksAt s c i ranks
+  ranks-written i x f ranks₀ ranks w =
+      let n = counted s c i x f in
+      record {
+        counted = w .count ∙ sym n;
+        within = omega (arith, f .within);
+        rows = λ k l. let g : k < x .count = omega arith in rw (w .rows k g) (f .rows k g);
+        are = λ k l. let g : k < x .count = omega arith in rw (w .rows k g) (standing-at s c i x f k g);
+      }
+
+  -- those of an earlier point
+  pub ranks-earlier : (i : ℕ) (x : Ranks) (ranks₀ ranks : List ℕ) → Written ranks₀ ranks i (rows-before s i) x → (j : ℕ) → j < i → RanksAt s c j ranks₀ → RanksAt s c j ranks
+  ranks-earlier i x ranks₀ ranks w j l a =
+      let same : (k : ℕ) → k < length (candidates-at (sheet-of s c) j) → getD ranks (rows-before s j + k) 0 ≡ getD ranks₀ (rows-before s j + k) 0 =
+      λ k g. w .earlier (rows-before s j + k) (omega (arith, a .within, before-next s j, before-le s (j + 1) i (omega arith))) in
+      record {
+        counted = w .others j l ∙ a .counted;
+        within = a .within;
+        rows = λ k g. rw (same k g) (a .rows k g);
+        are = λ k g. rw (same k g) (a .are k g);
+      }
+
+  -- one point more
+  pub ranks-next : (i : ℕ) (x : Ranks) → Ranked s c i x → (ranks₀ ranks : List ℕ) → Written ranks₀ ranks i (rows-before s i) x → RanksTo s c i ranks₀ → RanksTo s c (i + 1) ranks
+  ranks-next i x f ranks₀ ranks w h j l = ⊎-elim
+      (λ (g : j < i). ranks-earlier i x ranks₀ ranks w j g (h j g))
+      (λ (g : i ≤ j). let same : i ≡ j = omega arith in subst (λ (n : ℕ). RanksAt s c n ranks) same (ranks-written i x f ranks₀ ranks w))
+      (below-or-not j i)
+
+  -- what is to be written fits
+  pub rows-fit : (i : ℕ) (x : Ranks) → Ranked s c i x → WellFormed s c → i < c .p → Rows64 x
+  rows-fit i x f ok h = (f .few, f .long, λ k l. omega (arith, f .rows k l, count-most s c (ok .sound) i h))
+
+-- ---- the candidates that a leg tries, by the ranks
+
+module _ (s : List ℕ) (c : Counts) (i : ℕ) (ranks : List ℕ) (f : RanksAt s c i ranks) where
   -- one candidate more, made of its row
   pub filled-more : (set : Settings) (p : Point) (first : ℕ) → set ≡ sheet-of s c .settings → p ≡ point-of (points-bytes s c) i → first ≡ rows-before s i
-      → (k : ℕ) → k < r .count → (items : List Candidate) → k < length items → (x : Candidate) → x ≡ candidate-of set p (spot-of (sheet-of s c) (row-of (rows-bytes s c) (first + getD (r .items) k no-rank .row)))
+      → (k : ℕ) → k < length (candidates-at (sheet-of s c) i) → (items : List Candidate) → k < length items → (x : Candidate) → x ≡ candidate-of set p (spot-of (sheet-of s c) (row-of (rows-bytes s c) (first + getD ranks (first + k) 0)))
       → ((j : ℕ) → j < k → getD items j no-candidate ≡ getD (candidates-at (sheet-of s c) i) j no-candidate)
       → (j : ℕ) → j < k + 1 → getD (list.set items k x) j no-candidate ≡ getD (candidates-at (sheet-of s c) i) j no-candidate
   unfolding row-measured
   filled-more set p first es ep ef k l items fit x e h j g =
-      let here : x ≡ getD (candidates-at (sheet-of s c) i) k no-candidate = rw (es, ep, ef) at e ∙ standing-at k l in
+      let here : x ≡ getD (candidates-at (sheet-of s c) i) k no-candidate = rw (es, ep, ef) at e ∙ f .are k l in
       ⊎-elim
       (λ (w : j < k). getD-set-other items k j x no-candidate (λ e. omega arith) ∙ h j w)
       (λ (w : k ≤ j). let same : j ≡ k = omega arith in rw same (getD-set-same items k x no-candidate fit ∙ here))
       (below-or-not j k)
 
-  module _ (h : i < c .p) (ok : WellFormed s c) (n : ℕ) (items : List Candidate) (long : length items ≡ 10) (is : n ≡ min 10 (r .count))
+  module _ (h : i < c .p) (ok : WellFormed s c) (n : ℕ) (items : List Candidate) (long : length items ≡ 10) (is : n ≡ min 10 (length (candidates-at (sheet-of s c) i)))
       (each : (k : ℕ) → k < n → getD items k no-candidate ≡ getD (candidates-at (sheet-of s c) i) k no-candidate) where
-    -- the candidates that a leg may try
     pub found-tried : Found (sheet-of s c) c i (record { items = items; count = n })
     found-tried =
         let front : length (take n items) ≡ n = length-take-le n items (omega arith) in
         record {
-          are = ext-getD no-candidate (take n items) (take 10 (candidates-at (sheet-of s c) i)) (front ∙ is ∙ sym (simp length-take (ap (min 10) counted)))
+          are = ext-getD no-candidate (take n items) (take 10 (candidates-at (sheet-of s c) i)) (front ∙ is ∙ sym (length-take 10 (candidates-at (sheet-of s c) i)))
               (λ k l. getD-take n items k no-candidate (omega arith) ∙ each k (omega arith) ∙ sym (getD-take 10 (candidates-at (sheet-of s c) i) k no-candidate (omega arith)));
           few = omega arith;
-          items = λ k l. subst (OnSheet (sheet-of s c) c) (sym (each k l)) (candidates-facts s c i h ok .1 _ (in-getD (candidates-at (sheet-of s c) i) k no-candidate (omega (arith, counted))));
+          items = λ k l. subst (OnSheet (sheet-of s c) c) (sym (each k l)) (candidates-facts s c i h ok .1 _ (in-getD (candidates-at (sheet-of s c) i) k no-candidate (omega arith)));
         }

@@ -1,6 +1,6 @@
 -- The least distance item by item, and the two rules of the points point by point.
 use Prim.Native.Nat.{ℕ, zero, suc, _+_, _-_, _≤_, _<_}
-use mathlib.Core.Path.{_≡_, refl, sym, ap, _∙_}
+use mathlib.Core.Path.{_≡_, refl, sym, ap, _∙_, subst}
 use mathlib.Core.Bool.{Bool, true, false, cond}
 use mathlib.Core.Option.{Option, none, some}
 use mathlib.Core.List.{List, [], _∷_, map}
@@ -84,6 +84,15 @@ pub judged-so : (most : Float) (cs : List (List Candidate)) → 0 < length cs �
 unfolding judge-points close-enough closest-point
 judged-so most [] h = absurd (omega arith)
 judged-so most (xs ∷ rest) h = onward-is most 0 none-yet (xs ∷ rest)
+
+-- a point that is named is not fine
+named : Points → Type 0
+named Fine = ⊥
+named (NoCandidate i) = Unit {0}
+
+pub not-fine : {A : Type 0} (i : ℕ) → NoCandidate i ≡ Fine → A
+unfolding named
+not-fine i e = absurd (subst named e tt)
 
 choice : (b : Bool) (i : ℕ) (o : Outcome) → cond b o (refused 9 i 0) ≡ after-points (cond b Fine (NoCandidate i)) o
 unfolding after-points

@@ -16,7 +16,7 @@ use Rattle.model.specs.View.{spot-of}
 use Rattle.model.specs.Candidates.{candidate-of}
 use Rattle.candidates.specs.declared.rank.Rank.{Rank}
 use Rattle.candidates.specs.declared.rank.Ranks.{Ranks}
-use Rattle.candidates.specs.Found.{candidates-at}
+use Rattle.candidates.specs.Found.{candidates-at, no-candidate}
 
 -- the candidate of the k-th row of point i, whether it passes or not
 unfoldable pub row-measured : List ℕ → Counts → ℕ → ℕ → Candidate
@@ -38,4 +38,33 @@ pub record Ranked (s : List ℕ) (c : Counts) (i : ℕ) (r : Ranks) : Type 0 whe
   pub are : map (λ (x : Rank). row-measured s c i (x .row)) (take (r .count) (r .items)) ≡ candidates-at (sheet-of s c) i
   pub long : length (r .items) ≡ 64
   pub few : r .count ≤ 64
+  pub within : r .count ≤ row-count s i
   pub rows : (k : ℕ) → k < r .count → getD (r .items) k no-rank .row < row-count s i
+
+-- ---- the ranks of all points, in a lent list: the rows of each point's candidates from its first row on, and behind all rows the points' counts
+
+-- where the count of point i stands
+abbrev pub count-place : ℕ → ℕ
+count-place i = 1024 + i
+
+-- ranks that fit in the list: at most 64, each of a row below 64
+abbrev pub Rows64 : Ranks → Type 0
+Rows64 x = (x .count ≤ 64) × (length (x .items) ≡ 64) × ((k : ℕ) → k < x .count → getD (x .items) k no-rank .row < 64)
+
+-- the ranks x of point i, whose rows begin at `first`, are written; those before them and the other counts are as before
+pub record Written (ranks₀ ranks : List ℕ) (i first : ℕ) (x : Ranks) : Type 0 where
+  pub rows : (k : ℕ) → k < x .count → getD ranks (first + k) 0 ≡ getD (x .items) k no-rank .row
+  pub count : getD ranks (count-place i) 0 ≡ x .count
+  pub earlier : (j : ℕ) → j < first → getD ranks j 0 ≡ getD ranks₀ j 0
+  pub others : (j : ℕ) → j < i → getD ranks (count-place j) 0 ≡ getD ranks₀ (count-place j) 0
+
+-- the ranks of point i
+pub record RanksAt (s : List ℕ) (c : Counts) (i : ℕ) (ranks : List ℕ) : Type 0 where
+  pub counted : getD ranks (count-place i) 0 ≡ length (candidates-at (sheet-of s c) i)
+  pub within : length (candidates-at (sheet-of s c) i) ≤ row-count s i
+  pub rows : (k : ℕ) → k < length (candidates-at (sheet-of s c) i) → getD ranks (rows-before s i + k) 0 < row-count s i
+  pub are : (k : ℕ) → k < length (candidates-at (sheet-of s c) i) → row-measured s c i (getD ranks (rows-before s i + k) 0) ≡ getD (candidates-at (sheet-of s c) i) k no-candidate
+
+-- the ranks of the first n points
+abbrev pub RanksTo : List ℕ → Counts → ℕ → List ℕ → Type 0
+RanksTo s c n ranks = (i : ℕ) → i < n → RanksAt s c i ranks

@@ -4,13 +4,15 @@ use crate::rank::Ranks;
 use model::Counts;
 use sheet::points;
 ghost use mathlib.Core.Path.{_≡_};
-ghost use Prim.Native.Nat.{_<_};
+ghost use Prim.Native.Nat.{_≤_, _<_};
+ghost use lib.ListN.{length};
 ghost use Rattle.model.specs.Numbers.{infinity};
 ghost use Rattle.model.specs.Judge.{WellFormed};
 ghost use Rattle.model.specs.Sheet.{sheet-of};
 ghost use Rattle.model.specs.Candidates.{nearest};
 ghost use Rattle.candidates.specs.Found.{candidates-at};
-ghost use Rattle.candidates.specs.Ranking.{Ranked};
+ghost use Rattle.candidates.specs.Ranking.{Ranked, RanksTo};
+ghost use Rattle.candidates.specs.declared.closest.Points.the-variants.{Fine};
 ghost use Rattle.candidates.specs.Points.{points-of};
 
 // The points are fine, or refusal 9 names this one.
@@ -47,9 +49,11 @@ pub fn nearest(s: &[u8], c: Counts, i: usize, x: Ranks) -> f64
 }
 
 // The first point without a candidate; else the point whose nearest candidate is the nearest of all, the first if equal, where that one is too far.
-pub fn require_candidates(s: &[u8], c: Counts) -> Points
-    requires { ⌜ WellFormed (now s) c ⌝ }
-    ensures { λ r. ⌜ r ≡ points-of (sheet-of (now (s .entry)) c) ⌝ }
+// Where the points are fine, the ranks of all of them stand in `ranks`.
+pub fn require_candidates(s: &[u8], c: Counts, ranks: &mut [u8]) -> Points
+    requires { ⌜ WellFormed (now s) c × (1040 ≤ length (now ranks)) ⌝ }
+    ensures verdict { λ r. ⌜ r ≡ points-of (sheet-of (now (s .entry)) c) ⌝ }
+    ensures ranked { λ r. ⌜ (r ≡ Fine → RanksTo (now (s .entry)) c (c .p) (now (ranks .exit))) ⌝ }
 {
     let set = points::settings(s, c);
     let mut least = infinity();
@@ -61,6 +65,8 @@ pub fn require_candidates(s: &[u8], c: Counts) -> Points
             return Points::NoCandidate(i);
         }
         let d = nearest(s, c, i, x);
+        let first = points::first_row(s, c, i);
+        rank::keep_ranks(ranks, i, first, x);
         if d < least {
             least = d;
             at = i;

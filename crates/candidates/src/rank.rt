@@ -7,13 +7,14 @@ use model::Settings;
 use sheet::points;
 use sheet::roads;
 ghost use mathlib.Core.Path.{_≡_};
-ghost use Prim.Native.Nat.{_≤_, _<_};
+ghost use Prim.Native.Nat.{_+_, _≤_, _<_};
+ghost use lib.ListN.{length};
 ghost use Rattle.model.specs.Layout.{rows-bytes};
 ghost use Rattle.model.specs.Judge.{WellFormed};
 ghost use Rattle.model.specs.Sheet.{row-of, sheet-of};
 ghost use Rattle.model.specs.View.{spot-of};
 ghost use Rattle.model.specs.Candidates.{candidate-of};
-ghost use Rattle.candidates.specs.Ranking.{rank-of, ahead, Ranked};
+ghost use Rattle.candidates.specs.Ranking.{rank-of, ahead, Ranked, Rows64, Written};
 
 // A row by its number among the point's rows, and what its candidate is sorted by: the score and the road's number.
 pub struct Rank {
@@ -97,4 +98,22 @@ pub fn rank_rows(s: &[u8], c: Counts, set: Settings, i: usize) -> Ranks
         count = most;
     }
     Ranks { items, count }
+}
+
+// Where the points' counts stand in the lent ranks: behind all rows.
+pub const COUNTS: usize = 1024;
+
+// Writes the ranks x of point i, whose rows begin at `first`, into the lent ranks.
+pub fn keep_ranks(ranks: &mut [u8], i: usize, first: usize, x: Ranks)
+    requires { ⌜ (1040 ≤ length (now ranks)) × (i < 16) × (first + x .count ≤ 1024) × Rows64 x ⌝ }
+    ensures { λ _. ⌜ Written (now (ranks .entry)) (now (ranks .exit)) i first x ⌝ }
+{
+    let count = x.count;
+    let mut k = 0;
+    while k < count {
+        let r = x.items[k];
+        ranks[first + k] = r.row as u8;
+        k += 1;
+    }
+    ranks[COUNTS + i] = count as u8;
 }

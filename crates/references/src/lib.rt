@@ -22,7 +22,7 @@ ghost use Rattle.model.specs.Decode as decode;
 ghost use Rattle.model.specs.Call.{most-entries};
 ghost use Rattle.search.specs.Areas.{columns, Sized};
 ghost use Rattle.lines.specs.Legs.{Ends};
-ghost use Rattle.references.specs.Reference.{Asks, Looks, Placed, Comes};
+ghost use Rattle.references.specs.Reference.{Asks, Looks, RankedFor, Placed, Comes};
 
 // How a reference ends before the walks at its ends: refused with its number, A and B, or with a course.
 pub enum Outcome {
@@ -47,10 +47,11 @@ fn legs_of(kind: usize) -> Ahead
     Ahead::Line
 }
 
-// Refusals 7 to 9, in the order of the table.
-pub fn look_ahead(s: &[u8], c: Counts) -> Ahead
-    requires { ⌜ WellFormed (now s) c ⌝ }
-    ensures { λ r. ⌜ Looks (sheet-of (now (s .entry)) c) c r ⌝ }
+// Refusals 7 to 9, in the order of the table. Where the legs come, the ranks of all points stand in `ranks`.
+pub fn look_ahead(s: &[u8], c: Counts, ranks: &mut [u8]) -> Ahead
+    requires { ⌜ WellFormed (now s) c × (1040 ≤ length (now ranks)) ⌝ }
+    ensures looks { λ r. ⌜ Looks (sheet-of (now (s .entry)) c) c r ⌝ }
+    ensures ranked { λ r. ⌜ RankedFor (now (s .entry)) c r (now (ranks .exit)) ⌝ }
 {
     if POINT_ALONG_LINE < c.kind {
         return Ahead::Refused(7, c.kind);
@@ -58,7 +59,7 @@ pub fn look_ahead(s: &[u8], c: Counts) -> Ahead
     if c.p == 0 {
         return Ahead::Refused(8, 0);
     }
-    let found = closest::require_candidates(s, c);
+    let found = closest::require_candidates(s, c, ranks);
     match found {
         Points::Fine => legs_of(c.kind),
         Points::NoCandidate(i) => Ahead::Refused(9, i),
@@ -79,7 +80,7 @@ fn ended(run: Legs) -> Outcome
     }
 }
 
-// A reference up to the walks at its ends: its path's road numbers in the front of `ids`, its coverages in the coverage areas.
+// A reference up to the walks at its ends, with ranks for 1,024 rows and the counts of 16 points: its path's road numbers in the front of `ids`, its coverages in the coverage areas.
 pub fn decode_legs(
     s: &[u8],
     c: Counts,
@@ -103,7 +104,8 @@ pub fn decode_legs(
     ensures { λ r. ⌜ Comes (sheet-of (now (s .entry)) c) c (outcome (view (sheet-of (now (s .entry)) c)) (bounded-astar slots)) (now (ids .exit)) (now (covered .exit)) (now (coverage .exit)) r ⌝ }
 {
     let set = points::settings(s, c);
-    let ahead = look_ahead(s, c);
+    let mut ranks = [0u8; 1040];
+    let ahead = look_ahead(s, c, &mut ranks);
     match ahead {
         Ahead::Refused(number, place) => Outcome::Refused(number, place, 0),
         Ahead::Line => {
@@ -111,6 +113,7 @@ pub fn decode_legs(
                 s,
                 c,
                 set,
+                &ranks,
                 slots,
                 real,
                 penalised,
@@ -132,6 +135,7 @@ pub fn decode_legs(
                 s,
                 c,
                 set,
+                &ranks,
                 slots,
                 real,
                 penalised,

@@ -191,13 +191,13 @@ returns : tie.Need-returns Inv-shift μ-shift Inv-loop μ-loop
 returns c =
     let a = c .before .before .before .loop in
     let s = c .before .before .before .before .before .before .before .before in
-    found-most (now (s .args .s)) (s .args .c) (s .args .i) (s .pre .1) (s .pre .0) (s .args .set) (s .pre .2) (a .items) (a .inv .2) (a .count) (omega arith) (all-rows (c .before .before)) (c .if3 .taken)
+    found-most (now (s .args .s)) (s .args .c) (s .args .i) (s .pre .1) (s .pre .0) (s .args .set) (s .pre .2) (a .items) (a .inv .2) (a .count) (omega arith) (omega (arith, a .inv .0, a .inv .1, c .before .before .before .before .before .row-count .ensures .0)) (all-rows (c .before .before)) (c .if3 .taken)
 
 returns-2 : tie.Need-returns-2 Inv-shift μ-shift Inv-loop μ-loop
 returns-2 c =
     let a = c .before .before .before .loop in
     let s = c .before .before .before .before .before .before .before .before in
-    found-all (now (s .args .s)) (s .args .c) (s .args .i) (s .pre .1) (s .pre .0) (s .args .set) (s .pre .2) (a .items) (a .inv .2) (a .count) (omega arith) (all-rows (c .before .before)) (c .if3 .left)
+    found-all (now (s .args .s)) (s .args .c) (s .args .i) (s .pre .1) (s .pre .0) (s .args .set) (s .pre .2) (a .items) (a .inv .2) (a .count) (omega arith) (omega (arith, a .inv .0, a .inv .1, c .before .before .before .before .before .row-count .ensures .0)) (all-rows (c .before .before)) (c .if3 .left)
 
 pub rank-rows-spec : {M : Type 1} → statement M
 rank-rows-spec =

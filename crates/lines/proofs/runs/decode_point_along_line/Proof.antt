@@ -10,10 +10,10 @@ begin-requires : tie.Need-begin-requires
 begin-requires c κs = search needs
 
 walk-leg-requires : tie.Need-walk-leg-requires
-walk-leg-requires c κs = let a = c .before .before .before .before .before .before .before .before .before .before .before .before .before .before .before .before .before .before .before .before .before .before .before .before .before .before .args in
-    let p = c .before .before .before .before .before .before .before .before .before .before .before .before .before .before .before .before .before .before .before .before .before .before .before .before .before .before .pre in
+walk-leg-requires c κs = let a = c .before .before .before .before .before .before .before .before .before .before .before .before .before .before .before .before .before .before .before .before .before .before .before .before .before .before .before .args in
+    let p = c .before .before .before .before .before .before .before .before .before .before .before .before .before .before .before .before .before .before .before .before .before .before .before .before .before .before .before .pre in
     let r = room-first (a .s .now) (a .c) (a .slots) in
-    ((p .0 .0, p .0 .1, p .0 .2, omega (arith, p .0 .3), λ j h. absurd (omega arith)), ((omega (arith, r, p .1 .0 .0), omega (arith, r, p .1 .0 .1), omega (arith, r, p .1 .0 .2)), p .1 .1))
+    ((p .0 .0, p .0 .1, p .0 .2, omega (arith, p .0 .3), λ j h. absurd (omega arith), p .0 .4, p .0 .5), ((omega (arith, r, p .1 .0 .0), omega (arith, r, p .1 .0 .1), omega (arith, r, p .1 .0 .2)), p .1 .1))
 
 alone-requires : tie.Need-alone-requires
 alone-requires c κs = search needs
@@ -56,8 +56,8 @@ same-length-12 c = search needs
 
 returns : tie.Need-returns
 unfolding last-of coverages-at tab
-returns c = let a = c .before .before .before .before .before .before .before .before .before .before .before .before .before .before .before .before .before .before .before .before .before .before .before .before .before .before .before .before .before .before .before .before .before .before .before .before .before .before .before .before .before .before .before .before .before .before .before .before .before .before .before .before .args in
-    let p = c .before .before .before .before .before .before .before .before .before .before .before .before .before .before .before .before .before .before .before .before .before .before .before .before .before .before .before .before .before .before .before .before .before .before .before .before .before .before .before .before .before .before .before .before .before .before .before .before .before .before .before .before .pre in
+returns c = let a = c .before .before .before .before .before .before .before .before .before .before .before .before .before .before .before .before .before .before .before .before .before .before .before .before .before .before .before .before .before .before .before .before .before .before .before .before .before .before .before .before .before .before .before .before .before .before .before .before .before .before .before .before .before .args in
+    let p = c .before .before .before .before .before .before .before .before .before .before .before .before .before .before .before .before .before .before .before .before .before .before .before .before .before .before .before .before .before .before .before .before .before .before .before .before .before .before .before .before .before .before .before .before .before .before .before .before .before .before .before .before .before .pre in
     rw (c .alone .ensures, c .before .before .before .before .before .before .before .before .before .before .before .before .before .before .before .before .before .before .before .before .before .before .before .before .before .before .before .before .before .before .before .before .before .before .before .before .before .before .begin .ensures) (alone-ends (a .s .now) (a .c) (a .slots) (p .0 .3) _ _ _ (c .before .before .before .before .before .before .before .before .before .before .before .before .before .before .before .before .before .before .before .before .before .before .before .before .before .walk-leg .result) (c .before .before .before .before .before .before .before .before .before .before .before .before .before .before .before .before .before .before .before .before .before .before .before .before .before .walk-leg .ensures))
 
 pub decode-point-along-line-spec : {M : Type 1} → statement M
