@@ -18,7 +18,7 @@ list=$PWD/mutants/list.txt
 work=$target/mutants
 rm -rf "$work/harness"
 mkdir -p "$work/harness"
-cp -r Cargo.* stand_ins road_network openlr_decoder sheets oracle compare mutants "$work/harness"
+cp -r Cargo.* stand_ins road_network openlr_decoder sheets oracle compare mutants speed "$work/harness"
 export CARGO_TARGET_DIR="$work/target" CARGO_PROFILE_RELEASE_OPT_LEVEL=1 CARGO_INCREMENTAL=1
 programs=$work/target/release
 bins="--bin sample --bin compare"

@@ -2,7 +2,7 @@
 # Makes the stored cases of crate replay anew: sample/changes.txt and classes.txt, and from them the files of ../crates/replay/data.
 # Chosen are of the first 100,000 well-formed and 200,000 damaged seeds, always the smallest sheets first:
 # for each change of mutants/list.txt the first three sheets that notice it; of every class of well-formed sheets the first, of damaged ones the first two. S1 to S4 come with the classes.
-# Needs cargo alone, and a quarter of an hour.
+# Needs cargo alone, and some ten minutes.
 cd "$(dirname "$0")" || exit 1
 cargo build --release --offline --quiet --package oracle || exit 1
 target=${CARGO_TARGET_DIR:-target}
