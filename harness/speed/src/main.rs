@@ -1,16 +1,16 @@
 //! speed [SET [SHEETS]]: the port against the original Rust on the same sheets, in one process, alternating.
-//! speed once SET [SHEETS]: one call of each on every sheet, to count instructions by.
+//! speed twice SET [SHEETS]: two calls of each on every sheet, to count instructions by.
 //! SET: small, desk, full, heavy, refused; all without it.
 
 mod sets;
 mod timing;
 
 use sets::{Set, SETS};
-use timing::{once, timed, Spent};
+use timing::{timed, twice, Spent};
 
 fn main() {
     let args: Vec<String> = std::env::args().skip(1).collect();
-    let counting = args.first().is_some_and(|a| a == "once");
+    let counting = args.first().is_some_and(|a| a == "twice");
     let args = &args[counting as usize..];
     let count = args.get(1).map(|a| a.parse().expect("a number of sheets"));
     if !counting {
@@ -22,7 +22,7 @@ fn main() {
         }
         let sheets = set.sheets(count);
         if counting {
-            sheets.iter().for_each(once);
+            sheets.iter().for_each(twice);
             println!("{}: {} sheets", set.name, sheets.len());
         } else {
             print(set, &sheets.iter().map(timed).collect::<Vec<Spent>>());

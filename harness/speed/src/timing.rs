@@ -101,12 +101,12 @@ impl<'a> Both<'a> {
     }
 }
 
-/// One call of each.
-pub fn once(sheet: &Sheet) {
+/// Two calls of each; both programs had the first to be compared.
+pub fn twice(sheet: &Sheet) {
     let mut both = Both::of(sheet);
     both.original(&Original::of(sheet).decoder(), 1);
     both.port(1);
-    both.judge(1);
+    both.judge(2);
 }
 
 pub fn timed(sheet: &Sheet) -> Spent {
