@@ -33,7 +33,6 @@ fn main() {
 /// The set's mean times and how many times faster the port is: by the means, and at least on any sheet.
 fn print(set: &Set, spent: &[Spent]) {
     let mean = |time: fn(&Spent) -> f64| spent.iter().map(time).sum::<f64>() / spent.len() as f64;
-    let least = |ratio: fn(&Spent) -> f64| spent.iter().map(ratio).fold(f64::INFINITY, f64::min);
     let original = [mean(|s| s.original.best), mean(|s| s.original.median)];
     let decode = [mean(|s| s.decode().best), mean(|s| s.decode().median)];
     let port = [mean(|s| s.port.best), mean(|s| s.port.median)];
@@ -43,18 +42,12 @@ fn print(set: &Set, spent: &[Spent]) {
     line("original", original);
     line("decode", decode);
     line("judge", judge);
-    let faster = |name: &str, time: [f64; 2], least: f64| {
+    let faster = |name: &str, time: [f64; 2], ratio: fn(&Spent) -> f64| {
         let [best, median] = [original[0] / time[0], original[1] / time[1]];
-        println!("  {name} is {best:.1} {median:.1} times faster, on no sheet under {least:.1}");
+        let least = spent.iter().map(ratio).fold(f64::INFINITY, f64::min);
+        let slower = spent.iter().filter(|s| ratio(s) < 1.0).count();
+        println!("  {name} is {best:.1} {median:.1} times faster, least {least:.2}, slower on {slower} sheets");
     };
-    faster(
-        "decode",
-        decode,
-        least(|s| s.original.best / s.decode().best),
-    );
-    faster(
-        "decode with judge",
-        port,
-        least(|s| s.original.best / s.port.best),
-    );
+    faster("decode", decode, |s| s.original.best / s.decode().best);
+    faster("decode with judge", port, |s| s.original.best / s.port.best);
 }
