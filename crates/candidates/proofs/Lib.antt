@@ -6,5 +6,6 @@ pub mod Weighed
 pub mod SheetFacts
 pub mod Gathered
 pub mod RankLaws
+pub mod Rising
 pub mod Rules
 pub mod Pointwise

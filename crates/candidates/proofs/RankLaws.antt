@@ -8,7 +8,7 @@ use mathlib.Core.List.{List, [], map}
 use native.Mathlib.Numerals.{add-one}
 use native.Mathlib.Omega.{arith}
 use lib.ListN.{length, take, getD, set, length-map, length-take}
-use lib.ListN as list
+use lib.Ieee.{Float, nan}
 use lib.Seq.{getD-take, getD-set-same, getD-set-other, length-take-le, take-take, take-all, ext-getD}
 use Rattle.model.specs.declared.Counts.{Counts}
 use Rattle.model.specs.declared.Settings.{Settings}
@@ -17,22 +17,25 @@ use Rattle.model.specs.declared.Candidate.{Candidate}
 use Rattle.model.specs.declared.Row.{Row}
 use Rattle.model.specs.Lists.{In, insert, when}
 use Rattle.model.specs.Layout.{points-bytes, rows-bytes}
-use Rattle.model.specs.Judge.{WellFormed, row-count, rows-before}
-use Rattle.model.specs.Sheet.{point-of, row-of, sheet-of}
+use Rattle.model.specs.Judge.{WellFormed, row-count, rows-before, row-road}
+use Rattle.model.specs.Sheet.{point-of, row-of, sheet-of, road-at}
 use Rattle.model.specs.View.{spot-of}
 use Rattle.model.specs.Candidates.{candidate-of, candidate, better, passes}
 use Rattle.model.proofs.Members.{getD-map, map-take, map-insert, in-getD, in-take, Every, every-none}
-use Rattle.model.proofs.Fields.{count-most}
-use Rattle.model.proofs.RowSums.{before-next, before-le}
+use Rattle.model.proofs.Fields.{count-most, row-road-below}
+use Rattle.model.proofs.Parsed.{number-is, row-road-is}
+use Rattle.model.proofs.RowSums.{before-next, before-le, rows-within}
 use Rattle.bounds.proofs.Sources.{when-some}
 use Rattle.bounds.proofs.Choices.{below-or-not}
 use Rattle.bounds.proofs.Shifted.{Moved, put-in}
+use Rattle.candidates.specs.declared.find.Shortlist.{Shortlist}
 use Rattle.candidates.specs.declared.rank.Rank.{Rank}
 use Rattle.candidates.specs.declared.rank.Ranks.{Ranks}
-use Rattle.candidates.specs.Found.{candidates-at, OnSheet, no-candidate, Found}
-use Rattle.candidates.specs.Ranking.{row-measured, rank-of, ahead, no-rank, Ranked, count-place, Rows64, Written, RanksAt, RanksTo}
+use Rattle.candidates.specs.Found.{candidates-at, OnSheet, no-candidate, Listed}
+use Rattle.candidates.specs.Ranking.{row-measured, rank-of, ahead, no-rank, Ranked, count-place, Rows64, Written, RanksAt, RanksTo, score-place, Scored, ScoresTo}
 use Rattle.candidates.proofs.Sorted.{Orders, Ordered, every-insert, insert-ordered, insert-at}
-use Rattle.candidates.proofs.Ranked.{Scored, better-orders}
+use Rattle.candidates.proofs.Ranked.{better-orders}
+use Rattle.candidates.proofs.Ranked as ranked-laws
 use Rattle.candidates.proofs.Gathered.{sorted, row-candidate, row-facts, cut-is, candidates-facts}
 
 -- ---- the rows of a point
@@ -60,7 +63,7 @@ module _ (s : List ℕ) (c : Counts) (i : ℕ) where
   record Own (r : Rank) : Type 0 where
     pub row : r .row < row-count s i
     pub is : r ≡ rank-of (r .row) (row-measured s c i (r .row))
-    pub scored : Scored (row-measured s c i (r .row))
+    pub scored : ranked-laws.Scored (row-measured s c i (r .row))
 
   agrees : (a b : Rank) → Own a → Own b → ahead a b ≡ better (standing a) (standing b)
   unfolding better
@@ -81,7 +84,7 @@ module _ (s : List ℕ) (c : Counts) (i : ℕ) where
     own : (k : ℕ) → k < row-count s i → (x : Candidate) → row-candidate s c i k ≡ some x → Own (rank-of k x)
     own k l x e =
         let is = row-is k x e in
-        record { row = l; is = ap (rank-of k) (sym is); scored = subst Scored (sym is) (row-facts s c i h ok k l x e .0) }
+        record { row = l; is = ap (rank-of k) (sym is); scored = subst ranked-laws.Scored (sym is) (row-facts s c i h ok k l x e .0) }
 
     -- the first k rows
     record Facts (k : ℕ) (xs : List Rank) : Type 0 where
@@ -131,15 +134,18 @@ module _ (s : List ℕ) (c : Counts) (i : ℕ) where
     found r few within long e =
         let f = facts (row-count s i) (omega arith) in
         let most = sheet-of s c .settings .«max_candidates» in
+        let own-at : (k : ℕ) → k < r .count → Own (getD (r .items) k no-rank) =
+        λ k l.
+        let inside = in-getD (take (r .count) (r .items)) k no-rank (omega (arith, length-take-le (r .count) (r .items) (omega arith))) in
+        let there = subst (In (getD (r .items) k no-rank)) e (rw (getD-take (r .count) (r .items) k no-rank l) at inside) in
+        f .owns _ (in-take most (ranked s c i (row-count s i)) there) in
         record {
           are = ap (map standing) e ∙ map-take standing most (ranked s c i (row-count s i)) ∙ ap (take most) (f .are) ∙ cut-is s c i h;
           long = long;
           few = few;
           within = within;
-          rows = λ k l.
-              let inside = in-getD (take (r .count) (r .items)) k no-rank (omega (arith, length-take-le (r .count) (r .items) (omega arith))) in
-              let there = subst (In (getD (r .items) k no-rank)) e (rw (getD-take (r .count) (r .items) k no-rank l) at inside) in
-              f .owns _ (in-take most (ranked s c i (row-count s i)) there) .row;
+          rows = λ k l. own-at k l .row;
+          scores = λ k l. ap (λ (x : Rank). x .score) (own-at k l .is);
         }
 
     module _ (set : Settings) (es : set ≡ sheet-of s c .settings) (xs : List Rank) (long : length xs ≡ 64) (n : ℕ) (few : n ≤ 64) (within : n ≤ row-count s i)
@@ -171,11 +177,6 @@ module _ (s : List ℕ) (c : Counts) (i : ℕ) (r : Ranks) (f : Ranked s c i r) 
       ap (λ (x : Rank). row-measured s c i (x .row)) (sym (getD-take (r .count) (r .items) k no-rank l))
       ∙ sym (getD-map (λ (x : Rank). row-measured s c i (x .row)) (take (r .count) (r .items)) k no-rank no-candidate (omega (arith, taken)))
       ∙ ap (λ (xs : List Candidate). getD xs k no-candidate) (f .are)
-
-  -- the distance stands in the row
-  pub distance-at : (k : ℕ) → k < r .count → (w : Row) → w ≡ row-of (rows-bytes s c) (rows-before s i + getD (r .items) k no-rank .row) → w .distance ≡ getD (candidates-at (sheet-of s c) i) k no-candidate .distance
-  unfolding row-measured candidate-of
-  distance-at k l w e = ap (λ (x : Row). x .distance) e ∙ ap (λ (x : Candidate). x .distance) (standing-at k l)
 
 -- ---- writing the ranks of a point
 
@@ -248,30 +249,72 @@ module _ (s : List ℕ) (c : Counts) where
   pub rows-fit : (i : ℕ) (x : Ranks) → Ranked s c i x → WellFormed s c → i < c .p → Rows64 x
   rows-fit i x f ok h = (f .few, f .long, λ k l. omega (arith, f .rows k l, count-most s c (ok .sound) i h))
 
--- ---- the candidates that a leg tries, by the ranks
+-- ---- writing the scores of a point
 
-module _ (s : List ℕ) (c : Counts) (i : ℕ) (ranks : List ℕ) (f : RanksAt s c i ranks) where
-  -- one candidate more, made of its row
-  pub filled-more : (set : Settings) (p : Point) (first : ℕ) → set ≡ sheet-of s c .settings → p ≡ point-of (points-bytes s c) i → first ≡ rows-before s i
-      → (k : ℕ) → k < length (candidates-at (sheet-of s c) i) → (items : List Candidate) → k < length items → (x : Candidate) → x ≡ candidate-of set p (spot-of (sheet-of s c) (row-of (rows-bytes s c) (first + getD ranks (first + k) 0)))
-      → ((j : ℕ) → j < k → getD items j no-candidate ≡ getD (candidates-at (sheet-of s c) i) j no-candidate)
-      → (j : ℕ) → j < k + 1 → getD (list.set items k x) j no-candidate ≡ getD (candidates-at (sheet-of s c) i) j no-candidate
+-- the first k of them are written, from place `first` on
+pub record PartlyScored (scores₀ scores : List Float) (first : ℕ) (x : Ranks) (k : ℕ) : Type 0 where
+  pub each : (j : ℕ) → j < k → getD scores (first + j) nan ≡ getD (x .items) j no-rank .score
+  pub earlier : (j : ℕ) → j < first → getD scores j nan ≡ getD scores₀ j nan
+
+module _ (scores₀ : List Float) (first : ℕ) (x : Ranks) where
+  pub scored-none : PartlyScored scores₀ scores₀ first x 0
+  scored-none = record { each = λ j h. absurd (omega arith); earlier = λ j h. refl }
+
+  pub scored-more : (scores : List Float) (k : ℕ) → PartlyScored scores₀ scores first x k → first + k < length scores → PartlyScored scores₀ (set scores (first + k) (getD (x .items) k no-rank .score)) first x (k + 1)
+  scored-more scores k w fit =
+      let v = getD (x .items) k no-rank .score in
+      record {
+        each = λ j h. ⊎-elim
+            (λ (g : j < k). getD-set-other scores (first + k) (first + j) v nan (λ e. omega arith) ∙ w .each j g)
+            (λ (g : k ≤ j). let same : j ≡ k = omega arith in rw same (getD-set-same scores (first + k) v nan fit))
+            (below-or-not j k);
+        earlier = λ j h. getD-set-other scores (first + k) j v nan (λ e. omega arith) ∙ w .earlier j h;
+      }
+
+-- one point more
+pub scores-next : (s : List ℕ) (c : Counts) (i : ℕ) (x : Ranks) → Ranked s c i x → (scores₀ scores : List Float) → Scored scores₀ scores i x → ScoresTo s c i scores₀ → ScoresTo s c (i + 1) scores
+scores-next s c i x f scores₀ scores w h j l k few g = ⊎-elim
+    (λ (a : j < i). w .earlier (score-place j k) (omega arith) ∙ h j a k few g)
+    (λ (a : i ≤ j).
+    let same : j ≡ i = omega arith in
+    let g' : k < length (candidates-at (sheet-of s c) i) = rw same at g in
+    let m : k < x .count = omega (arith, counted s c i x f) in
+    rw same (w .each k few m ∙ f .scores k m ∙ ap (λ (y : Candidate). y .score) (standing-at s c i x f k m)))
+    (below-or-not j i)
+
+-- ---- the candidates of a point, by the ranks
+
+module _ (s : List ℕ) (c : Counts) (i : ℕ) (ranks : List ℕ) (f : RanksAt s c i ranks) (k : ℕ) (l : k < length (candidates-at (sheet-of s c) i))
+    (r : ℕ) (is : r ≡ rows-before s i + getD ranks (rows-before s i + k) 0) where
+  -- the one that is made of the row that a rank names
+  pub made-is : (set : Settings) (p : Point) → set ≡ sheet-of s c .settings → p ≡ point-of (points-bytes s c) i → (x : Candidate) → x ≡ candidate-of set p (spot-of (sheet-of s c) (row-of (rows-bytes s c) r)) → x ≡ getD (candidates-at (sheet-of s c) i) k no-candidate
   unfolding row-measured
-  filled-more set p first es ep ef k l items fit x e h j g =
-      let here : x ≡ getD (candidates-at (sheet-of s c) i) k no-candidate = rw (es, ep, ef) at e ∙ f .are k l in
-      ⊎-elim
-      (λ (w : j < k). getD-set-other items k j x no-candidate (λ e. omega arith) ∙ h j w)
-      (λ (w : k ≤ j). let same : j ≡ k = omega arith in rw same (getD-set-same items k x no-candidate fit ∙ here))
-      (below-or-not j k)
+  made-is set p es ep x e = rw (es, ep, is) at e ∙ f .are k l
 
-  module _ (h : i < c .p) (ok : WellFormed s c) (n : ℕ) (items : List Candidate) (long : length items ≡ 10) (is : n ≡ min 10 (length (candidates-at (sheet-of s c) i)))
-      (each : (k : ℕ) → k < n → getD items k no-candidate ≡ getD (candidates-at (sheet-of s c) i) k no-candidate) where
-    pub found-tried : Found (sheet-of s c) c i (record { items = items; count = n })
-    found-tried =
-        let front : length (take n items) ≡ n = length-take-le n items (omega arith) in
-        record {
-          are = ext-getD no-candidate (take n items) (take 10 (candidates-at (sheet-of s c) i)) (front ∙ is ∙ sym (length-take 10 (candidates-at (sheet-of s c) i)))
-              (λ k l. getD-take n items k no-candidate (omega arith) ∙ each k (omega arith) ∙ sym (getD-take 10 (candidates-at (sheet-of s c) i) k no-candidate (omega arith)));
-          few = omega arith;
-          items = λ k l. subst (OnSheet (sheet-of s c) c) (sym (each k l)) (candidates-facts s c i h ok .1 _ (in-getD (candidates-at (sheet-of s c) i) k no-candidate (omega arith)));
-        }
+  -- its distance and its road's number stand in that row
+  pub distance-is : (w : Row) → w ≡ row-of (rows-bytes s c) r → w .distance ≡ getD (candidates-at (sheet-of s c) i) k no-candidate .distance
+  unfolding row-measured candidate-of
+  distance-is w e = ap (λ (x : Row). x .distance) e ∙ rw is (ap (λ (x : Candidate). x .distance) (f .are k l))
+
+  pub road-is : r < c .m → WellFormed s c → row-road s c r ≡ getD (candidates-at (sheet-of s c) i) k no-candidate .road .number
+  unfolding row-measured candidate-of
+  road-is h ok =
+      let below = row-road-below s c (ok .sound) r h in
+      sym (number-is s c (row-road s c r) below)
+      ∙ ap (λ (n : ℕ). road-at (sheet-of s c) n .number) (sym (row-road-is s c r h))
+      ∙ rw is (ap (λ (x : Candidate). x .road .number) (f .are k l))
+
+-- each is on the sheet
+pub candidate-on : (s : List ℕ) (c : Counts) (i : ℕ) → i < c .p → WellFormed s c → (k : ℕ) → k < length (candidates-at (sheet-of s c) i) → OnSheet (sheet-of s c) c (getD (candidates-at (sheet-of s c) i) k no-candidate)
+candidate-on s c i h ok k l = candidates-facts s c i h ok .1 _ (in-getD (candidates-at (sheet-of s c) i) k no-candidate l)
+
+-- the k-th of those that a leg tries
+module _ (s : List ℕ) (c : Counts) (x : Shortlist) (ranks : List ℕ) (ok : WellFormed s c) (at : Listed s c x) (f : RanksAt s c (x .number) ranks) (k : ℕ) (h : k < x .count) where
+  pub listed-in : k < length (candidates-at (sheet-of s c) (x .number))
+  listed-in = omega (arith, at .count)
+
+  pub place-in : x .first + k < 1024
+  place-in = omega (arith, at .first, f .within, listed-in, rows-within s c (ok .rows) (x .number) (at .below), ok .sound .small .m)
+
+  pub row-in : rows-before s (x .number) + getD ranks (rows-before s (x .number) + k) 0 < c .m
+  row-in = omega (arith, f .rows k listed-in, rows-within s c (ok .rows) (x .number) (at .below))

@@ -1,17 +1,19 @@
--- The candidates of a point of the parsed sheet, and what a list of them holds.
-use Prim.Native.Nat.{ℕ, _≤_, _<_}
+-- The candidates of a point of the parsed sheet, and those of them that a leg tries.
+use Prim.Native.Nat.{ℕ, _≤_, _<_, min}
 use mathlib.Core.Path.{_≡_}
 use mathlib.Core.Bool.{false}
 use mathlib.Core.List.{List, []}
-use lib.ListN.{length, getD, take}
+use lib.ListN.{length, getD}
 use lib.Ieee.{nan}
 use Rattle.model.specs.declared.Counts.{Counts}
 use Rattle.model.specs.declared.Candidate.{Candidate}
 use Rattle.model.specs.Numbers.{f0}
-use Rattle.model.specs.Sheet.{Stop, Sheet, road-at}
+use Rattle.model.specs.Layout.{points-bytes}
+use Rattle.model.specs.Judge.{rows-before}
+use Rattle.model.specs.Sheet.{Stop, Sheet, road-at, point-of, sheet-of}
 use Rattle.model.specs.View.{place-of}
 use Rattle.model.specs.Candidates.{find-candidates}
-use Rattle.candidates.specs.declared.find.Candidates.{Candidates}
+use Rattle.candidates.specs.declared.find.Shortlist.{Shortlist}
 
 -- past the last point: a point without rows
 abbrev pub no-stop : Stop
@@ -44,8 +46,13 @@ no-candidate = record {
   fraction = nan;
 }
 
--- The first `count` items are the first ten candidates of point i of t, each on a road of the sheet.
-pub record Found (t : Sheet) (c : Counts) (i : ℕ) (r : Candidates) : Type 0 where
-  pub are : take (r .count) (r .items) ≡ take 10 (candidates-at t i)
-  pub few : r .count ≤ 10
-  pub items : (k : ℕ) → k < r .count → OnSheet t c (getD (r .items) k no-candidate)
+-- how many of n candidates a leg tries
+abbrev pub tried : ℕ → ℕ
+tried n = min 10 n
+
+-- x stands for the candidates of its point that a leg tries
+pub record Listed (s : List ℕ) (c : Counts) (x : Shortlist) : Type 0 where
+  pub below : x .number < c .p
+  pub point : x .point ≡ point-of (points-bytes s c) (x .number)
+  pub first : x .first ≡ rows-before s (x .number)
+  pub count : x .count ≡ tried (length (candidates-at (sheet-of s c) (x .number)))

@@ -1,11 +1,11 @@
 -- The rows of a point in the order of their candidates.
-use Prim.Native.Nat.{ℕ, _+_, _≤_, _<_}
+use Prim.Native.Nat.{ℕ, _+_, _*_, _≤_, _<_}
 use mathlib.Core.Path.{_≡_}
 use mathlib.Core.Bool.{Bool, _||_, _&&_}
 use mathlib.Core.List.{List, map}
 use lib.Dec.{ltb}
 use lib.ListN.{length, getD, take}
-use lib.Ieee.{nan, eq}
+use lib.Ieee.{Float, nan, eq}
 use Rattle.model.specs.declared.Counts.{Counts}
 use Rattle.model.specs.declared.Candidate.{Candidate}
 use Rattle.model.specs.Numbers.{_<ᶠ_}
@@ -40,6 +40,7 @@ pub record Ranked (s : List ℕ) (c : Counts) (i : ℕ) (r : Ranks) : Type 0 whe
   pub few : r .count ≤ 64
   pub within : r .count ≤ row-count s i
   pub rows : (k : ℕ) → k < r .count → getD (r .items) k no-rank .row < row-count s i
+  pub scores : (k : ℕ) → k < r .count → getD (r .items) k no-rank .score ≡ row-measured s c i (getD (r .items) k no-rank .row) .score
 
 -- ---- the ranks of all points, in a lent list: the rows of each point's candidates from its first row on, and behind all rows the points' counts
 
@@ -68,3 +69,21 @@ pub record RanksAt (s : List ℕ) (c : Counts) (i : ℕ) (ranks : List ℕ) : Ty
 -- the ranks of the first n points
 abbrev pub RanksTo : List ℕ → Counts → ℕ → List ℕ → Type 0
 RanksTo s c n ranks = (i : ℕ) → i < n → RanksAt s c i ranks
+
+-- ---- the scores of the candidates that a leg tries, in another lent list: ten places for each point
+
+abbrev pub score-place : ℕ → ℕ → ℕ
+score-place i k = 10 * i + k
+
+-- the scores of the ranks x of point i are written; those of the points before it are as before
+pub record Scored (scores₀ scores : List Float) (i : ℕ) (x : Ranks) : Type 0 where
+  pub each : (k : ℕ) → k < 10 → k < x .count → getD scores (score-place i k) nan ≡ getD (x .items) k no-rank .score
+  pub earlier : (j : ℕ) → j < score-place i 0 → getD scores j nan ≡ getD scores₀ j nan
+
+-- the scores of point i
+abbrev pub ScoresAt : List ℕ → Counts → ℕ → List Float → Type 0
+ScoresAt s c i scores = (k : ℕ) → k < 10 → k < length (candidates-at (sheet-of s c) i) → getD scores (score-place i k) nan ≡ getD (candidates-at (sheet-of s c) i) k no-candidate .score
+
+-- the scores of the first n points
+abbrev pub ScoresTo : List ℕ → Counts → ℕ → List Float → Type 0
+ScoresTo s c n scores = (i : ℕ) → i < n → ScoresAt s c i scores

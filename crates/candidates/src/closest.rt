@@ -1,17 +1,17 @@
 // Whether every point has a candidate, and the nearest one of all is near enough.
 use crate::rank;
-use crate::rank::Ranks;
+use crate::find::index;
 use model::Counts;
 use sheet::points;
 ghost use mathlib.Core.Path.{_≡_};
 ghost use Prim.Native.Nat.{_≤_, _<_};
 ghost use lib.ListN.{length};
 ghost use Rattle.model.specs.Numbers.{infinity};
-ghost use Rattle.model.specs.Judge.{WellFormed};
+ghost use Rattle.model.specs.Judge.{WellFormed, rows-before};
 ghost use Rattle.model.specs.Sheet.{sheet-of};
 ghost use Rattle.model.specs.Candidates.{nearest};
 ghost use Rattle.candidates.specs.Found.{candidates-at};
-ghost use Rattle.candidates.specs.Ranking.{Ranked, RanksTo};
+ghost use Rattle.candidates.specs.Ranking.{RanksAt, RanksTo, ScoresTo};
 ghost use Rattle.candidates.specs.declared.closest.Points.the-variants.{Fine};
 ghost use Rattle.candidates.specs.Points.{points-of};
 
@@ -28,18 +28,16 @@ fn infinity() -> f64
     f64::from_bits(0x7ff0_0000_0000_0000)
 }
 
-// The least distance of the candidates of point i, whose rows are ranked; infinity where there is none.
-pub fn nearest(s: &[u8], c: Counts, i: usize, x: Ranks) -> f64
-    requires { ⌜ WellFormed (now s) c × (i < c .p) × Ranked (now s) c i x ⌝ }
+// The least distance of the `count` candidates of point i, whose rows begin at `first`, by their ranks; infinity where there is none.
+pub fn nearest(s: &[u8], c: Counts, i: usize, first: usize, count: usize, ranks: &[u8]) -> f64
+    requires { ⌜ WellFormed (now s) c × (i < c .p) × (first ≡ rows-before (now s) i) × (count ≡ length (candidates-at (sheet-of (now s) c) i)) × (1040 ≤ length (now ranks)) × RanksAt (now s) c i (now ranks) ⌝ }
     ensures { λ d. ⌜ d ≡ nearest (candidates-at (sheet-of (now (s .entry)) c) i) ⌝ }
 {
-    let count = x.count;
-    let first = points::first_row(s, c, i);
     let mut least = infinity();
     let mut k = 0;
     while k < count {
-        let y = x.items[k];
-        let w = points::row(s, c, first + y.row);
+        let row = index(ranks[first + k]);
+        let w = points::row(s, c, first + row);
         if w.distance < least {
             least = w.distance;
         }
@@ -49,11 +47,11 @@ pub fn nearest(s: &[u8], c: Counts, i: usize, x: Ranks) -> f64
 }
 
 // The first point without a candidate; else the point whose nearest candidate is the nearest of all, the first if equal, where that one is too far.
-// Where the points are fine, the ranks of all of them stand in `ranks`.
-pub fn require_candidates(s: &[u8], c: Counts, ranks: &mut [u8]) -> Points
-    requires { ⌜ WellFormed (now s) c × (1040 ≤ length (now ranks)) ⌝ }
+// Where the points are fine, the ranks of all of them stand in `ranks`, and the scores that legs ask for in `scores`.
+pub fn require_candidates(s: &[u8], c: Counts, ranks: &mut [u8], scores: &mut [f64]) -> Points
+    requires { ⌜ WellFormed (now s) c × (1040 ≤ length (now ranks)) × (160 ≤ length (now scores)) ⌝ }
     ensures verdict { λ r. ⌜ r ≡ points-of (sheet-of (now (s .entry)) c) ⌝ }
-    ensures ranked { λ r. ⌜ (r ≡ Fine → RanksTo (now (s .entry)) c (c .p) (now (ranks .exit))) ⌝ }
+    ensures ranked { λ r. ⌜ (r ≡ Fine → RanksTo (now (s .entry)) c (c .p) (now (ranks .exit)) × ScoresTo (now (s .entry)) c (c .p) (now (scores .exit))) ⌝ }
 {
     let set = points::settings(s, c);
     let mut least = infinity();
@@ -64,9 +62,10 @@ pub fn require_candidates(s: &[u8], c: Counts, ranks: &mut [u8]) -> Points
         if x.count == 0 {
             return Points::NoCandidate(i);
         }
-        let d = nearest(s, c, i, x);
         let first = points::first_row(s, c, i);
         rank::keep_ranks(ranks, i, first, x);
+        rank::keep_scores(scores, i, x);
+        let d = nearest(s, c, i, first, x.count, ranks);
         if d < least {
             least = d;
             at = i;

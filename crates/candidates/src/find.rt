@@ -1,70 +1,89 @@
-// The candidates of a point that a leg may try.
+// The candidates of a point that a leg may try, by the lent ranks: each is made of its row when it is needed.
 use crate::rank;
 use model::Candidate;
 use model::Counts;
-use model::Road;
+use model::Point;
 use model::Settings;
+use sheet::numbers;
 use sheet::points;
-ghost use Prim.Native.Nat.{_≤_, _<_};
-ghost use lib.ListN.{length};
+ghost use Prim.Native.Nat.{_+_, _≤_, _<_};
+ghost use lib.ListN.{length, getD};
 ghost use mathlib.Core.Path.{_≡_};
-ghost use Rattle.model.specs.Judge.{WellFormed};
+ghost use Rattle.model.specs.Judge.{WellFormed, rows-before};
 ghost use Rattle.model.specs.Sheet.{sheet-of};
-ghost use Rattle.candidates.specs.Found.{Found};
+ghost use Rattle.candidates.specs.Found.{tried, candidates-at, no-candidate, OnSheet, Listed};
 ghost use Rattle.candidates.specs.Ranking.{RanksAt};
 
-// The first `count` of the items, best first: at most the ten that a leg tries.
-pub struct Candidates {
-    pub items: [Candidate; 10],
+// A point by its number and record, its first row, and how many of its candidates a leg tries.
+pub struct Shortlist {
+    pub number: usize,
+    pub point: Point,
+    pub first: usize,
     pub count: usize,
 }
 
-// What stands in an item that is not used.
-fn blank() -> Candidate {
-    let road = Road {
-        number: 0,
-        id: 0,
-        metres: 0.0,
-        source: 0,
-        target: 0,
-        frc: 0,
-        fow: 0,
-        access: false,
-    };
-    Candidate {
-        road,
-        distance: 0.0,
-        bearing_diff: 0.0,
-        frc_diff: 0,
-        fow_score: 0.0,
-        score: 0.0,
-        fraction: 0.0,
-    }
-}
-
 // A rank or a count as an index.
-fn index(x: u8) -> usize
+pub fn index(x: u8) -> usize
     ensures { λ r. ⌜ (r ≡ x) × (r < 256) ⌝ }
 {
     x as usize
 }
 
-// The best candidates of point i, with the sheet's settings, each made of its row by the lent ranks.
-pub fn find_candidates(s: &[u8], c: Counts, set: Settings, i: usize, ranks: &[u8]) -> Candidates
-    requires { ⌜ WellFormed (now s) c × (i < c .p) × (set ≡ sheet-of (now s) c .settings) × (1040 ≤ length (now ranks)) × RanksAt (now s) c i (now ranks) ⌝ }
-    ensures { λ r. ⌜ Found (sheet-of (now (s .entry)) c) c i r ⌝ }
+// How many of n candidates a leg tries: at most ten.
+pub fn tried(n: usize) -> usize
+    ensures { λ r. ⌜ r ≡ tried n ⌝ }
 {
-    let p = points::point(s, c, i);
+    if n < 10 { n } else { 10 }
+}
+
+// The candidates of point i that a leg tries.
+pub fn shortlist_of(s: &[u8], c: Counts, i: usize, ranks: &[u8]) -> Shortlist
+    requires { ⌜ WellFormed (now s) c × (i < c .p) × (1040 ≤ length (now ranks)) × RanksAt (now s) c i (now ranks) ⌝ }
+    ensures { λ x. ⌜ (x .number ≡ i) × Listed (now (s .entry)) c x ⌝ }
+{
+    let point = points::point(s, c, i);
     let first = points::first_row(s, c, i);
     let all = index(ranks[rank::COUNTS + i]);
-    let count = if all < 10 { all } else { 10 };
-    let none = blank();
-    let mut items = [none; 10];
-    let mut k = 0;
-    while k < count {
-        let row = index(ranks[first + k]);
-        items[k] = rank::measured(s, c, set, p, first + row);
-        k += 1;
+    let count = tried(all);
+    Shortlist {
+        number: i,
+        point,
+        first,
+        count,
     }
-    Candidates { items, count }
+}
+
+// The row of the k-th candidate.
+fn row_at(s: &[u8], c: Counts, x: Shortlist, ranks: &[u8], k: usize) -> usize
+    requires { ⌜ WellFormed (now s) c × Listed (now s) c x × (k < x .count) × (1040 ≤ length (now ranks)) × RanksAt (now s) c (x .number) (now ranks) ⌝ }
+    ensures { λ r. ⌜ (r ≡ rows-before (now (s .entry)) (x .number) + getD (now (ranks .entry)) (rows-before (now (s .entry)) (x .number) + k) 0) × (r < c .m) ⌝ }
+{
+    let first = x.first;
+    let row = index(ranks[first + k]);
+    first + row
+}
+
+// The k-th candidate, with the sheet's settings.
+pub fn candidate_at(
+    s: &[u8],
+    c: Counts,
+    set: Settings,
+    x: Shortlist,
+    ranks: &[u8],
+    k: usize,
+) -> Candidate
+    requires { ⌜ WellFormed (now s) c × (set ≡ sheet-of (now s) c .settings) × Listed (now s) c x × (k < x .count) × (1040 ≤ length (now ranks)) × RanksAt (now s) c (x .number) (now ranks) ⌝ }
+    ensures { λ y. ⌜ (y ≡ getD (candidates-at (sheet-of (now (s .entry)) c) (x .number)) k no-candidate) × OnSheet (sheet-of (now (s .entry)) c) c y ⌝ }
+{
+    let row = row_at(s, c, x, ranks, k);
+    rank::measured(s, c, set, x.point, row)
+}
+
+// The number of its road, which stands in its row.
+pub fn road_at(s: &[u8], c: Counts, x: Shortlist, ranks: &[u8], k: usize) -> usize
+    requires { ⌜ WellFormed (now s) c × Listed (now s) c x × (k < x .count) × (1040 ≤ length (now ranks)) × RanksAt (now s) c (x .number) (now ranks) ⌝ }
+    ensures { λ r. ⌜ r ≡ getD (candidates-at (sheet-of (now (s .entry)) c) (x .number)) k no-candidate .road .number ⌝ }
+{
+    let row = row_at(s, c, x, ranks, k);
+    numbers::row_road(s, c, row)
 }

@@ -1,5 +1,6 @@
 // The rows of a point that pass, in the order of their candidates. Only ranks move; a candidate is made of its row where it is needed.
 use crate::candidate;
+use crate::find;
 use model::Candidate;
 use model::Counts;
 use model::Point;
@@ -14,7 +15,7 @@ ghost use Rattle.model.specs.Judge.{WellFormed};
 ghost use Rattle.model.specs.Sheet.{row-of, sheet-of};
 ghost use Rattle.model.specs.View.{spot-of};
 ghost use Rattle.model.specs.Candidates.{candidate-of};
-ghost use Rattle.candidates.specs.Ranking.{rank-of, ahead, Ranked, Rows64, Written};
+ghost use Rattle.candidates.specs.Ranking.{rank-of, ahead, Ranked, Rows64, Written, Scored};
 
 // A row by its number among the point's rows, and what its candidate is sorted by: the score and the road's number.
 pub struct Rank {
@@ -116,4 +117,19 @@ pub fn keep_ranks(ranks: &mut [u8], i: usize, first: usize, x: Ranks)
         k += 1;
     }
     ranks[COUNTS + i] = count as u8;
+}
+
+// Writes the scores of those of point i that a leg tries, ten places for each point.
+pub fn keep_scores(scores: &mut [f64], i: usize, x: Ranks)
+    requires { ⌜ (160 ≤ length (now scores)) × (i < 16) × Rows64 x ⌝ }
+    ensures { λ _. ⌜ Scored (now (scores .entry)) (now (scores .exit)) i x ⌝ }
+{
+    let count = find::tried(x.count);
+    let first = 10 * i;
+    let mut k = 0;
+    while k < count {
+        let r = x.items[k];
+        scores[first + k] = r.score;
+        k += 1;
+    }
 }

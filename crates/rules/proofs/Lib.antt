@@ -1,3 +1,4 @@
 pub mod Fitting
 pub mod BestLaws
 pub mod Closeness
+pub mod OneRoad

@@ -1,80 +1,73 @@
-use mathlib.Core.Option.{none}
-use mathlib.Core.Path.{_∙_}
-use Prim.Native.Nat.{_≤_, _*_, _-_}
-use native.Mathlib.Omega.{arith}
-use borrow.Author.Needs.{needs}
-use lib.ListN.{take}
-use Rattle.model.specs.Legs.{leg-pairs, take-close, try-same-edge-solution}
+use Rattle.rules.proofs.OneRoad.{starts-none, start-more, starts-done, ten-long, ten-at}
+use Rattle.rules.specs.Code.{best-of, Stands}
+use Rattle.candidates.specs.Found.{candidates-at, no-candidate}
+use Rattle.model.specs.Sheet.{sheet-of}
+use Rattle.model.specs.Legs.{pair, pairs, take-close}
 use Rattle.model.specs.Lists.{fold}
-use Rattle.pairs.proofs.PairLaws.{hundred, some-ends, start-below, end-below, fold-pair, fold-end}
-use Rattle.rules.specs.Code.{Stands}
+use lib.ListN.{length, take, getD}
+use mathlib.Core.List.{List, map}
+use mathlib.Core.Option.{none}
+use mathlib.Core.Path.{_≡_, refl, sym, ap, _∙_}
+use borrow.Author.Needs.{needs}
+use native.Mathlib.Omega.{arith}
+use Prim.Native.Nat.{ℕ, _≤_, _<_, _-_}
 use Rattle.rules.proofs.same_edge.try_same_edge_solution.Statement.{statement}
 use Rattle.rules.proofs.same_edge.try_same_edge_solution.Tie as tie
+use Rattle.rules.proofs.same_edge.try_same_edge_solution.Reads as reads
+use Rattle.rules.proofs.same_edge.try_same_edge_solution.Lts as lts
+use Rattle.candidates.proofs.find.candidate_at.Reads as candidate-at-reads
+use Rattle.rules.proofs.routes.no_best.Reads as no-best-reads
+use Rattle.rules.proofs.same_edge.take_start.Reads as take-start-reads
 
 abbrev Inv-loop : tie.InvT-loop
-Inv-loop b start-count end-count starts ends m n count best₀ k₀ best k =
-    (k ≤ m * n) × Stands best (fold (take-close b) none (take k (leg-pairs (take start-count starts) (take end-count ends))))
+Inv-loop s c set b starts ends ranks best₀ i₀ best i =
+    (i ≤ starts .count) × Stands best (fold (take-close b) none (pairs (take i (take 10 (candidates-at (sheet-of s c) (starts .number)))) (take 10 (candidates-at (sheet-of s c) (ends .number)))))
 
 abbrev μ-loop : tie.MeasureT-loop
-μ-loop b start-count end-count starts ends m n count best₀ k₀ best k =
-    m * n - k
+μ-loop s c set b starts ends ranks best₀ i₀ best i =
+    starts .count - i
 
-tried-requires : tie.Need-tried-requires Inv-loop μ-loop
-tried-requires c κs = search needs
-
-tried-requires-2 : tie.Need-tried-requires-2 Inv-loop μ-loop
-tried-requires-2 c κs = search needs
-
-mul-count : tie.Need-mul-count Inv-loop μ-loop
-mul-count c = let h = hundred (c .before .tried .result) (c .tried2 .result) (omega arith) (omega arith) in omega arith
-
+-- src/same_edge.rt:111:9
 no-best-requires : tie.Need-no-best-requires Inv-loop μ-loop
 no-best-requires c κs = search needs
 
+-- src/same_edge.rt:113:5
 loop-holds : tie.Need-loop-holds Inv-loop μ-loop
-unfolding fold
-loop-holds c = (omega arith, c .no-best .ensures)
+loop-holds c = (omega arith, λ roads area. c .no-best .ensures roads area ∙ starts-none (c .before .before .before .args .b) (take 10 (candidates-at (sheet-of (c .before .before .before .args .s .now) (c .before .before .before .args .c)) (c .before .before .before .args .starts .number))) (take 10 (candidates-at (sheet-of (c .before .before .before .args .s .now) (c .before .before .before .args .c)) (c .before .before .before .args .ends .number))))
 
-div-i : tie.Need-div-i Inv-loop μ-loop
-div-i c = some-ends _ _ _ (c .loop-test .taken)
+-- src/same_edge.rt:114:13
+candidate-at-requires : tie.Need-candidate-at-requires Inv-loop μ-loop
+candidate-at-requires c κs = let p = c .before .before .before .before .before .before .pre in (p .0, p .1, p .2, c .if1 .taken, p .4, p .5)
 
-rem-j : tie.Need-rem-j Inv-loop μ-loop
-rem-j c = some-ends _ _ _ (c .loop-test .taken)
+-- src/same_edge.rt:115:9
+take-start-requires : tie.Need-take-start-requires Inv-loop μ-loop
+take-start-requires c κs = let p = c .before .before .before .before .before .before .before .pre in (p .0, p .1, p .3, p .4, p .6)
 
-mul-first : tie.Need-mul-first Inv-loop μ-loop
-mul-first c = let h = start-below _ _ _ (c .loop-test .taken) in let g = c .before .before .before .before .tried .ensures in omega arith
+-- src/same_edge.rt:116:9
+add-i : tie.Need-add-i Inv-loop μ-loop
+add-i c = omega (arith, c .before .before .before .before .before .before .before .before .pre .2 .count, c .before .before .if1 .taken)
 
-array-copy-out-first : tie.Need-array-copy-out-first Inv-loop μ-loop
-array-copy-out-first c = let h = start-below _ _ _ (c .loop-test .taken) in let g = c .before .before .before .before .tried .ensures in omega arith
-
-mul-last : tie.Need-mul-last Inv-loop μ-loop
-mul-last c = let h = end-below _ _ _ (c .before .loop-test .taken) in let g = c .before .before .before .before .tried2 .ensures in omega arith
-
-array-copy-out-last : tie.Need-array-copy-out-last Inv-loop μ-loop
-array-copy-out-last c = let h = end-below _ _ _ (c .before .loop-test .taken) in let g = c .before .before .before .before .tried2 .ensures in omega arith
-
-take-close-requires : tie.Need-take-close-requires Inv-loop μ-loop
-take-close-requires c κs = search needs
-
-add-k : tie.Need-add-k Inv-loop μ-loop
-add-k c = let h = hundred (c .before .before .before .before .before .before .before .tried .result) (c .before .before .before .before .before .before .tried2 .result) (omega arith) (omega arith) in let t = c .before .before .before .loop-test .taken in omega arith
-
+-- src/same_edge.rt:113:5
 loop-less : tie.Need-loop-less Inv-loop μ-loop
-loop-less c = omega arith
+loop-less c = omega (arith, c .before .before .if1 .taken)
 
+-- src/same_edge.rt:113:5
 loop-again : tie.Need-loop-again Inv-loop μ-loop
-loop-again c = let s = c .before .before .before .before .before .before .before .before in (
-  omega arith,
-  λ roads area. c .take-close .ensures roads area
-      ∙ fold-pair (s .args .t2) (s .args .t4) (s .args .start-count) (s .args .end-count) (omega arith) (omega arith) (c .before .before .before .before .before .before .before .tried .result) (c .before .before .before .before .before .before .tried2 .result) (c .before .before .before .before .before .before .before .tried .ensures) (c .before .before .before .before .before .before .tried2 .ensures)
-      (take-close (s .args .b)) none (c .before .before .before .before .loop .k) _ (c .before .before .before .before .loop .inv .1 roads area) (c .before .before .before .loop-test .taken),
-)
+loop-again c = let a = c .before .before .before .before .before .before .before .before .args in let p = c .before .before .before .before .before .before .before .before .pre in
+    let xs = candidates-at (sheet-of (a .s .now) (a .c)) (a .starts .number) in
+    let ys = candidates-at (sheet-of (a .s .now) (a .c)) (a .ends .number) in
+    let i = c .before .before .before .before .loop .i in
+    let x : c .before .candidate-at .result ≡ getD (take 10 xs) i no-candidate = c .before .candidate-at .ensures .0 ∙ ten-at xs (a .starts .count) (p .2 .count) i (c .before .before .if1 .taken) in (
+    omega (arith, c .before .before .if1 .taken),
+    λ roads area. start-more (a .b) (take 10 xs) (take 10 ys) i (omega (arith, c .before .before .if1 .taken, ten-long xs (a .starts .count) (p .2 .count))) (best-of roads (c .before .before .before .before .loop .best) area) (best-of roads (c .take-start .result) area) (c .before .before .before .before .loop .inv .1 roads area) (c .take-start .ensures roads area ∙ rw x),
+    )
 
+-- src/same_edge.rt:99:1
 returns : tie.Need-returns Inv-loop μ-loop
-unfolding try-same-edge-solution
-returns c = let s = c .before .before .before .before .before in λ roads area.
-    fold-end (s .args .t2) (s .args .t4) (s .args .start-count) (s .args .end-count) (omega arith) (omega arith) (c .before .before .before .before .tried .result) (c .before .before .before .tried2 .result) (c .before .before .before .before .tried .ensures) (c .before .before .before .tried2 .ensures)
-    (take-close (s .args .b)) none (c .before .loop .k) _ (c .before .loop .inv .1 roads area) (omega arith)
+returns c = let a = c .before .before .before .before .before .before .args in let p = c .before .before .before .before .before .before .pre in
+    let xs = candidates-at (sheet-of (a .s .now) (a .c)) (a .starts .number) in
+    let ys = candidates-at (sheet-of (a .s .now) (a .c)) (a .ends .number) in
+    λ roads area. starts-done (a .b) (take 10 xs) (take 10 ys) (c .before .before .loop .i) (let l = c .if1 .left in omega (arith, ten-long xs (a .starts .count) (p .2 .count))) (best-of roads (c .before .before .loop .best) area) (c .before .before .loop .inv .1 roads area)
 
 pub try-same-edge-solution-spec : {M : Type 1} → statement M
 try-same-edge-solution-spec =
@@ -82,19 +75,11 @@ try-same-edge-solution-spec =
     (tie.spec
     Inv-loop
     μ-loop
-    tried-requires
-    tried-requires-2
-    mul-count
     no-best-requires
     loop-holds
-    div-i
-    rem-j
-    mul-first
-    array-copy-out-first
-    mul-last
-    array-copy-out-last
-    take-close-requires
-    add-k
+    candidate-at-requires
+    take-start-requires
+    add-i
     loop-less
     loop-again
     returns)
