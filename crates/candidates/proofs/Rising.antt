@@ -1,10 +1,9 @@
 -- The scores of a point's candidates are amounts and never fall, since the candidates are sorted by them.
-use Prim.Native.Nat.{ℕ, zero, suc, _+_, _<_}
+use Prim.Native.Nat.{ℕ, zero, suc, _<_}
 use mathlib.Core.Path.{_≡_, refl, sym, _∙_, subst}
 use mathlib.Core.Bool.{Bool, true, false, not, _||_}
 use mathlib.Core.List.{List, [], _∷_}
-use native.Mathlib.Nat.{le-refl}
-use native.Mathlib.Numerals.{add-one}
+use native.Mathlib.Nat.{le-refl, le-of-suc-le-suc}
 use native.Mathlib.Omega.{arith}
 use lib.Dec.{T}
 use lib.ListN.{length, take, getD}
@@ -28,12 +27,12 @@ module _ {A : Type 0} (below : A → A → Bool) where
   ordered-take (suc n) [] h = tt
   ordered-take (suc n) (x ∷ xs) h = (λ z m. h .0 z (in-take n xs m), ordered-take n xs (h .1))
 
-  -- the next one does not stand before its neighbour
-  ordered-at : (d : A) (xs : List A) (k : ℕ) → Ordered below xs → k + 1 < length xs → below (getD xs (k + 1) d) (getD xs k d) ≡ false
-  ordered-at d [] k h l = absurd (omega arith)
-  ordered-at d (x ∷ []) k h l = absurd (omega arith)
-  ordered-at d (x ∷ y ∷ ys) zero h l = h .0 y (in-getD (y ∷ ys) 0 d (omega arith))
-  ordered-at d (x ∷ y ∷ ys) (suc k) h l = rw (add-one (suc k)) (rw (add-one k) at (ordered-at d (y ∷ ys) k (h .1) (omega arith)))
+  -- a later one does not stand before an earlier one
+  ordered-at : (d : A) (xs : List A) (j k : ℕ) → Ordered below xs → j < k → k < length xs → below (getD xs k d) (getD xs j d) ≡ false
+  ordered-at d [] j k h g l = absurd (omega arith)
+  ordered-at d (x ∷ xs) j zero h g l = absurd (omega arith)
+  ordered-at d (x ∷ xs) zero (suc k) h g l = h .0 (getD xs k d) (in-getD xs k d (le-of-suc-le-suc l))
+  ordered-at d (x ∷ xs) (suc j) (suc k) h g l = ordered-at d xs j k (h .1) (le-of-suc-le-suc g) (le-of-suc-le-suc l)
 
 left-false : (a b : Bool) → (a || b) ≡ false → T (not a)
 left-false true b e = absurd (subst T e tt)
@@ -52,7 +51,7 @@ module _ (s : List ℕ) (c : Counts) (i : ℕ) (h : i < c .p) (ok : WellFormed s
   pub score-amount : (k : ℕ) → k < length (candidates-at (sheet-of s c) i) → Amount (getD (candidates-at (sheet-of s c) i) k no-candidate .score)
   score-amount k l = candidates-facts s c i h ok .0 _ (in-getD (candidates-at (sheet-of s c) i) k no-candidate l)
 
-  pub scores-rise : (k : ℕ) → k + 1 < length (candidates-at (sheet-of s c) i) → T (le (getD (candidates-at (sheet-of s c) i) k no-candidate .score) (getD (candidates-at (sheet-of s c) i) (k + 1) no-candidate .score))
-  scores-rise k l =
+  pub scores-rise : (j k : ℕ) → j < k → k < length (candidates-at (sheet-of s c) i) → T (le (getD (candidates-at (sheet-of s c) i) j no-candidate .score) (getD (candidates-at (sheet-of s c) i) k no-candidate .score))
+  scores-rise j k g l =
       let xs = candidates-at (sheet-of s c) i in
-      not-lower (getD xs k no-candidate) (getD xs (k + 1) no-candidate) (score-amount k (omega arith)) (score-amount (k + 1) l) (ordered-at better no-candidate xs k ordered l)
+      not-lower (getD xs j no-candidate) (getD xs k no-candidate) (score-amount j (omega arith)) (score-amount k l) (ordered-at better no-candidate xs j k ordered g l)
