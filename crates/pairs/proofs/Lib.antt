@@ -4,3 +4,7 @@ pub mod Numbers
 pub mod Sums
 pub mod Fronts
 pub mod AddOrder
+pub mod Heads
+pub mod Rises
+pub mod LeftLaws
+pub mod NextLaws
