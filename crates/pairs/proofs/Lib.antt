@@ -2,3 +2,9 @@ pub mod PairLaws
 pub mod Places
 pub mod Numbers
 pub mod Sums
+pub mod Fronts
+pub mod AddOrder
+pub mod Heads
+pub mod Rises
+pub mod LeftLaws
+pub mod NextLaws

@@ -1,4 +1,6 @@
 // The pairs of a leg in the order of their sums. Pair k is start k / m and end k % m, where m ends are tried. Only numbers move; the sums stay.
+pub mod next;
+
 ghost use mathlib.Core.Path.{_≡_};
 ghost use mathlib.Core.List.{_∷_, _++_};
 ghost use Prim.Native.Nat.{_+_, _-_, _*_, _<_, _≤_};
