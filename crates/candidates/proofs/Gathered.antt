@@ -23,7 +23,7 @@ use Rattle.sheet.proofs.Parts.{map-tab}
 use Rattle.sheet.proofs.Stops.{stop-point, stop-rows}
 use Rattle.bounds.proofs.Sources.{when-some}
 use Rattle.candidates.specs.Found.{no-stop, stop-at, candidates-at, OnSheet}
-use Rattle.candidates.proofs.Sorted.{Ordered, every-insert, insert-ordered}
+use Rattle.candidates.proofs.Sorted.{Ordered, ordered-take, every-insert, insert-ordered}
 use Rattle.candidates.proofs.Ranked.{Scored, better-orders}
 use Rattle.candidates.proofs.Weighed.{passing-score}
 use Rattle.candidates.proofs.SheetFacts.{weighed, measured, on-sheet}
@@ -110,6 +110,11 @@ module _ (s : List ℕ) (c : Counts) (i : ℕ) (h : i < c .p) where
         let inside : (x : Candidate) → In x (candidates-at (sheet-of s c) i) → In x (sorted (row-candidate s c i) (row-count s i)) =
         λ x m. in-take (sheet-of s c .settings .«max_candidates») (sorted (row-candidate s c i) (row-count s i)) (subst (In x) (sym cut-is) m) in
         (λ x m. facts .0 x (inside x m), λ x m. facts .2 x (inside x m))
+
+    -- and they are sorted
+    pub candidates-ordered : Ordered better (candidates-at (sheet-of s c) i)
+    candidates-ordered = subst (Ordered better) cut-is
+        (ordered-take better (sheet-of s c .settings .«max_candidates») (sorted (row-candidate s c i) (row-count s i)) (sorted-facts (row-count s i) (le-refl (row-count s i)) .1))
 
 -- ---- a turn of the loop over the rows
 

@@ -1,4 +1,5 @@
 pub mod Passing
+pub mod Folds
 pub mod Sorted
 pub mod Ranked
 pub mod Degrees
@@ -6,6 +7,5 @@ pub mod Weighed
 pub mod SheetFacts
 pub mod Gathered
 pub mod RankLaws
-pub mod Rising
 pub mod Rules
 pub mod Pointwise

@@ -8,7 +8,7 @@ use native.Mathlib.Nat.{le-of-suc-le-suc, zero-lt-suc}
 use native.Mathlib.Omega.{arith}
 use lib.ListN.{length, take, drop, getD}
 use Rattle.model.specs.Lists.{insert}
-use Rattle.model.proofs.Members.{here, in-getD, in-insert, Every, every-none, every-cons}
+use Rattle.model.proofs.Members.{here, in-getD, in-take, in-insert, Every, every-none, every-cons}
 
 never : {b : Bool} → b ≡ true → b ≡ false → ⊥
 never p q = let z : _≡_ {A = Bool} true false = sym p ∙ q in let e : _≡_ {A = ℕ} 0 1 = cc in omega arith
@@ -23,6 +23,11 @@ module _ {A : Type 0} (below : A → A → Bool) where
   abbrev pub Ordered : List A → Type 0
   Ordered [] = Unit {0}
   Ordered (y ∷ ys) = Every (λ (z : A). below z y ≡ false) ys × Ordered ys
+
+  pub ordered-take : (n : ℕ) (xs : List A) → Ordered xs → Ordered (take n xs)
+  ordered-take zero xs h = tt
+  ordered-take (suc n) [] h = tt
+  ordered-take (suc n) (x ∷ xs) h = (λ z m. h .0 z (in-take n xs m), ordered-take n xs (h .1))
 
   pub every-insert : (P : A → Type 0) (x : A) (ys : List A) → P x → Every P ys → Every P (insert below x ys)
   every-insert P x ys px ps z m = elim (in-insert below x ys m) [ inl e ↦ subst P (sym e) px | inr k ↦ ps z k ]

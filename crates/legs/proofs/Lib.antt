@@ -1,4 +1,4 @@
 pub mod Middles
-pub mod Numbered
+pub mod InOrder
 pub mod Going
 pub mod Ending

@@ -3,7 +3,6 @@ use Prim.Native.Nat.{ℕ, _+_, _<_}
 use mathlib.Core.Path.{_≡_}
 use mathlib.Core.Bool.{true}
 use mathlib.Core.List.{List}
-use lib.ListN.{getD}
 use lib.Ieee.{Float}
 use Rattle.model.specs.declared.Road.{Road}
 use Rattle.model.specs.declared.Limits.{Limits}
@@ -14,8 +13,6 @@ use Rattle.model.specs.Search.{Found, bounded-astar}
 use Rattle.model.specs.Legs.{Seek, best, no-path, heap-full, sought, next-pair}
 use Rattle.model.specs.Legs as legs
 use Rattle.model.specs.Decode.{seek-of}
-use Rattle.candidates.specs.Found.{no-candidate}
-use Rattle.candidates.specs.declared.find.Candidates.{Candidates}
 use Rattle.rules.specs.declared.Best.{Best}
 use Rattle.rules.specs.Code.{path-of, best-of}
 use Rattle.plans.specs.declared.Middle.{Middle}
@@ -39,10 +36,6 @@ leg-at t b = record { limits = b; leaving = λ v. keep (allows (b .class)) (leav
 -- its searches, with a heap of `slots` entries
 unfoldable pub seek-at : Sheet → ℕ → Limits → Seek
 seek-at t slots b = seek-of (view t) (bounded-astar slots) (leg-at t b)
-
--- the roads of a point's candidates run between the sheet's n nodes
-abbrev pub Inside : ℕ → Candidates → Type 0
-Inside n xs = (k : ℕ) → k < xs .count → (getD (xs .items) k no-candidate .road .source < n) × (getD (xs .items) k no-candidate .road .target < n)
 
 -- ---- the answers
 

@@ -1,8 +1,9 @@
 // One leg: the way between two candidates' roads, the pairs one after the other, and find_best_path.
 pub mod middle;
+pub mod order;
 pub mod tries;
 
-use candidates::find::Candidates;
+use candidates::find::Shortlist;
 use model::Counts;
 use model::Limits;
 use model::Settings;
@@ -15,14 +16,16 @@ use rules::same_edge;
 ghost use mathlib.Core.Path.{_≡_};
 ghost use mathlib.Core.List.{List};
 ghost use Prim.Native.Nat.{ℕ, _≤_, _<_};
-ghost use lib.ListN.{length, take};
+ghost use lib.ListN.{length};
 ghost use Rattle.model.specs.declared.Road.{Road};
 ghost use Rattle.model.specs.Judge.{WellFormed};
 ghost use Rattle.model.specs.Sheet.{sheet-of, road-at};
 ghost use Rattle.model.specs.Legs.{sought, find-best-path};
+ghost use Rattle.candidates.specs.Found.{candidates-at, Listed};
+ghost use Rattle.candidates.specs.Ranking.{RanksAt, ScoresAt};
 ghost use Rattle.rules.specs.Code.{best-of};
 ghost use Rattle.search.specs.Areas.{columns, Sized};
-ghost use Rattle.legs.specs.Found.{seek-at, end-of, sought-of, Inside, Fits, Holds};
+ghost use Rattle.legs.specs.Found.{seek-at, end-of, sought-of, Fits, Holds};
 
 // What a leg finds: its best route, whose middle is in the front of an area; no path; or the heap used up.
 pub enum Sought {
@@ -63,8 +66,10 @@ pub fn find_best_path(
     c: Counts,
     set: Settings,
     b: Limits,
-    starts: Candidates,
-    ends: Candidates,
+    starts: Shortlist,
+    ends: Shortlist,
+    ranks: &[u8],
+    scores: &[f64],
     slots: usize,
     real: &mut [f64],
     penalised: &mut [f64],
@@ -76,20 +81,17 @@ pub fn find_best_path(
     node: &mut [usize],
     order: &mut [usize],
 ) -> Sought
-    requires { ⌜ WellFormed (now s) c × (set ≡ sheet-of (now s) c .settings) × (0 < c .n) × Inside (c .n) starts × Inside (c .n) ends ⌝ }
+    requires { ⌜ WellFormed (now s) c × (set ≡ sheet-of (now s) c .settings) × (0 < c .n) × Listed (now s) c starts × Listed (now s) c ends × (1040 ≤ length (now ranks)) × RanksAt (now s) c (starts .number) (now ranks) × RanksAt (now s) c (ends .number) (now ranks) × (160 ≤ length (now scores)) × ScoresAt (now s) c (starts .number) (now scores) × ScoresAt (now s) c (ends .number) (now scores) ⌝ }
     requires { ⌜ (0 < slots) × (c .n ≤ length (now route)) × (c .n ≤ length (now «best_route»)) × Sized (c .n) slots (columns (now real) (now penalised) (now «came_from») (now key) (now cost) (now node) (now order) 0 0) ⌝ }
     ensures means { λ r. ⌜ sought-of (road-at (sheet-of (now (s .entry)) c)) r (now («best_route» .exit))
-        ≡ find-best-path b (seek-at (sheet-of (now (s .entry)) c) slots b) (take (starts .count) (starts .items)) (take (ends .count) (ends .items)) ⌝ }
+        ≡ find-best-path b (seek-at (sheet-of (now (s .entry)) c) slots b) (candidates-at (sheet-of (now (s .entry)) c) (starts .number)) (candidates-at (sheet-of (now (s .entry)) c) (ends .number)) ⌝ }
     ensures holds { λ r. ⌜ Holds (c .n) (c .e) r (now («best_route» .exit)) ⌝ }
 {
-    let xs = starts.items;
-    let ys = ends.items;
-    let same = same_edge::try_same_edge_solution(b, xs, starts.count, ys, ends.count);
+    let same = same_edge::try_same_edge_solution(s, c, set, b, starts, ends, ranks);
     if same.found {
         let alone = routes::without_middle(same);
         return best_or_none(alone);
     }
-    let numbers = pairs::sorted_pairs(xs, starts.count, ys, ends.count);
     let st = tries::try_pairs(
         s,
         c,
@@ -97,7 +99,8 @@ pub fn find_best_path(
         b,
         starts,
         ends,
-        &numbers,
+        ranks,
+        scores,
         slots,
         real,
         penalised,

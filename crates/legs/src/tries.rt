@@ -1,6 +1,8 @@
 // The pairs of a leg, one after the other.
 use crate::middle;
-use candidates::find::Candidates;
+use crate::order;
+use candidates::find;
+use candidates::find::Shortlist;
 use model::Candidate;
 use model::Counts;
 use model::Limits;
@@ -13,16 +15,17 @@ use rules::routes;
 ghost use mathlib.Core.Path.{_≡_};
 ghost use mathlib.Core.Option.{none};
 ghost use Prim.Native.Nat.{_≤_, _<_};
-ghost use lib.ListN.{length, take};
+ghost use lib.ListN.{length};
 ghost use Rattle.model.specs.Lists.{sort};
 ghost use Rattle.model.specs.Judge.{WellFormed};
 ghost use Rattle.model.specs.Sheet.{sheet-of, road-at};
 ghost use Rattle.model.specs.Legs.{pair, leg-pairs, by-sum, try-pair, try-pairs};
+ghost use Rattle.candidates.specs.Found.{candidates-at, Listed};
+ghost use Rattle.candidates.specs.Ranking.{RanksAt, ScoresAt};
 ghost use Rattle.rules.specs.Code.{best-of};
-ghost use Rattle.pairs.specs.Sorted.{Sorted};
 ghost use Rattle.plans.specs.Turns.{turn-of};
 ghost use Rattle.search.specs.Areas.{columns, Sized};
-ghost use Rattle.legs.specs.Found.{seek-at, end-of, place-after, Inside, Fits};
+ghost use Rattle.legs.specs.Found.{seek-at, end-of, place-after, Fits};
 
 // One pair: what it asks for, the search if it asks for one, and what comes of it. The best route's middle is in the front of `best_route`.
 pub fn try_pair(
@@ -93,9 +96,10 @@ pub fn try_pairs(
     c: Counts,
     set: Settings,
     b: Limits,
-    starts: Candidates,
-    ends: Candidates,
-    numbers: &[usize],
+    starts: Shortlist,
+    ends: Shortlist,
+    ranks: &[u8],
+    scores: &[f64],
     slots: usize,
     real: &mut [f64],
     penalised: &mut [f64],
@@ -107,15 +111,14 @@ pub fn try_pairs(
     node: &mut [usize],
     order: &mut [usize],
 ) -> State
-    requires { ⌜ WellFormed (now s) c × (set ≡ sheet-of (now s) c .settings) × Inside (c .n) starts × Inside (c .n) ends × (100 ≤ length (now numbers)) × Sorted (starts .items) (ends .items) (starts .count) (ends .count) (now numbers) ⌝ }
+    requires { ⌜ WellFormed (now s) c × (set ≡ sheet-of (now s) c .settings) × Listed (now s) c starts × Listed (now s) c ends × (1040 ≤ length (now ranks)) × RanksAt (now s) c (starts .number) (now ranks) × RanksAt (now s) c (ends .number) (now ranks) × (160 ≤ length (now scores)) × ScoresAt (now s) c (starts .number) (now scores) × ScoresAt (now s) c (ends .number) (now scores) ⌝ }
     requires { ⌜ (0 < slots) × (c .n ≤ length (now route)) × (c .n ≤ length (now «best_route»)) × Sized (c .n) slots (columns (now real) (now penalised) (now «came_from») (now key) (now cost) (now node) (now order) 0 0) ⌝ }
     ensures means { λ t. ⌜ end-of (road-at (sheet-of (now (s .entry)) c)) t (now («best_route» .exit))
-        ≡ try-pairs b (seek-at (sheet-of (now (s .entry)) c) slots b) (sort by-sum (leg-pairs (take (starts .count) (starts .items)) (take (ends .count) (ends .items)))) none ⌝ }
+        ≡ try-pairs b (seek-at (sheet-of (now (s .entry)) c) slots b) (sort by-sum (leg-pairs (candidates-at (sheet-of (now (s .entry)) c) (starts .number)) (candidates-at (sheet-of (now (s .entry)) c) (ends .number)))) none ⌝ }
     ensures fits { λ t. ⌜ Fits (c .n) (c .e) (t .best) (now («best_route» .exit)) ⌝ }
 {
-    let m = pairs::tried(starts.count);
-    let n = pairs::tried(ends.count);
-    let count = m * n;
+    let count = starts.count * ends.count;
+    let mut heads = [0usize; 10];
     let unset = routes::no_best();
     let mut st = State {
         phase: Phase::On,
@@ -124,11 +127,9 @@ pub fn try_pairs(
     };
     let mut t = 0;
     while t < count {
-        let k = numbers[t];
-        let i = k / n;
-        let j = k % n;
-        let first = starts.items[i];
-        let last = ends.items[j];
+        let next = order::next_pair(scores, starts, ends, &mut heads);
+        let first = find::candidate_at(s, c, set, starts, ranks, next.start);
+        let last = find::candidate_at(s, c, set, ends, ranks, next.end);
         let best = st.best;
         st = try_pair(
             s,

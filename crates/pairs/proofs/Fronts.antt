@@ -7,7 +7,7 @@ use native.Mathlib.Omega.{arith}
 use lib.ListN.{length}
 use Rattle.model.specs.Lists.{insert, sort, fold}
 use Rattle.model.proofs.Members.{here, in-sort, Every}
-use Rattle.pairs.proofs.PairLaws.{fold-append}
+use Rattle.candidates.proofs.Folds.{fold-append}
 
 module _ {A : Type 0} (below : A → A → Bool) where
   abbrev inserts : List A → List A → List A

@@ -9,13 +9,12 @@ use lib.ListN.{length, getD, take, length-take}
 use lib.Seq.{getD-take}
 use lib.Ieee.{lt}
 use Rattle.model.specs.declared.Candidate.{Candidate}
-use Rattle.model.specs.Lists.{insert, sort}
 use Rattle.model.specs.Candidates.{better}
-use Rattle.model.proofs.Members.{in-getD, Every, every-none, fold-holds}
+use Rattle.model.proofs.Members.{in-getD, Every}
 use Rattle.bounds.proofs.Rank.{rank-le}
 use Rattle.candidates.specs.Found.{no-candidate}
-use Rattle.candidates.proofs.Sorted.{Ordered, every-insert, insert-ordered}
-use Rattle.candidates.proofs.Ranked.{Scored, better-orders}
+use Rattle.candidates.proofs.Sorted.{Ordered}
+use Rattle.candidates.proofs.Ranked.{Scored}
 use Rattle.pairs.specs.Left.{score-at, Rising}
 use Rattle.pairs.proofs.Heads.{not-below-rank}
 
@@ -43,13 +42,6 @@ ordered-rises xs ps h = record {
       let q = ps b (in-getD xs k no-candidate g) in
       rank-le (a .score) (b .score) p q (not-below-rank (b .score) (a .score) q p (not-better b a (later-not-better xs h j k l g)));
 }
-
-pub sort-rises : (xs : List Candidate) → Every Scored xs → Rising (sort better xs)
-unfolding sort
-sort-rises xs ps =
-    let r = fold-holds (λ (ys : List Candidate). Every Scored ys × Ordered better ys) (λ ys x. insert better x ys) [] xs (every-none Scored, tt)
-    (λ x m ys h. (every-insert better Scored x ys (ps x m) (h .0), insert-ordered better Scored better-orders x ys (ps x m) (h .0) (h .1))) in
-    ordered-rises (sort better xs) (r .0) (r .1)
 
 -- the first n of them
 module _ (n : ℕ) (xs : List Candidate) (r : Rising xs) where

@@ -1,95 +1,52 @@
-// The pairs of a leg in the order of their sums. Pair k is start k / m and end k % m, where m ends are tried. Only numbers move; the sums stay.
-pub mod next;
-
+// The pairs of a leg in the order of their sums, one at a time. The candidates are sorted by score, so the next pair is one of the heads: of each start the first end that is not taken.
 ghost use mathlib.Core.Path.{_≡_};
-ghost use mathlib.Core.List.{_∷_, _++_};
-ghost use Prim.Native.Nat.{_+_, _-_, _*_, _<_, _≤_};
-ghost use lib.ListN.{length, take, drop};
-ghost use Rattle.pairs.specs.Sorted.{tried, lower-sum, place, sorted, Under, Summed, Sorted};
-use model::Candidate;
+ghost use mathlib.Core.List.{List, _∷_};
+ghost use Prim.Native.Nat.{ℕ, _<_, _≤_};
+ghost use lib.ListN.{length, take, getD};
+ghost use Rattle.model.specs.declared.Candidate.{Candidate};
+ghost use Rattle.model.specs.Lists.{sort};
+ghost use Rattle.model.specs.Legs.{pair, by-sum};
+ghost use Rattle.candidates.specs.Found.{no-candidate};
+ghost use Rattle.pairs.specs.Left.{left, Scored, Least};
 
-// How many of n candidates a leg tries: at most 10.
-pub fn tried(n: usize) -> usize
-    ensures { λ r. ⌜ r ≡ tried n ⌝ }
-{
-    if n < 10 { n } else { 10 }
+// A pair by its start and its end.
+pub struct Next {
+    pub start: usize,
+    pub end: usize,
 }
 
-// The sum of each pair of the first m starts and n ends.
-fn fill_sums(sums: &mut [f64], starts: [Candidate; 10], m: usize, ends: [Candidate; 10], n: usize)
-    requires { ⌜ (m ≤ 10) × (n ≤ 10) × (m * n ≤ length (now sums)) ⌝ }
-    ensures { λ _. ⌜ Summed (now (sums .exit)) starts ends n (m * n) ⌝ }
+// The start whose head has the least sum, the first if equal.
+fn least_head(starts: &[f64], m: usize, ends: &[f64], n: usize, heads: &[usize]) -> usize
+    requires { ⌜ (m ≤ length (now starts)) × (n ≤ length (now ends)) × (m ≤ length (now heads)) × ((i : ℕ) × (i < m) × (getD (now heads) i 0 < n)) ⌝ }
+    ensures { λ r. ⌜ Least (now (starts .entry)) (now (ends .entry)) (now (heads .entry)) n m r ⌝ }
 {
-    let count = m * n;
-    let mut k = 0;
-    while k < count {
-        let i = k / n;
-        let j = k % n;
-        let first = starts[i];
-        let last = ends[j];
-        sums[k] = first.score + last.score;
-        k += 1;
-    }
-}
-
-// The place of pair k among the first `count` numbers: before the first with a greater sum.
-fn place(sums: &[f64], numbers: &[usize], count: usize, k: usize) -> usize
-    requires { ⌜ (count ≤ length (now numbers)) × (k < length (now sums)) × Under (length (now sums)) (take count (now numbers)) ⌝ }
-    ensures { λ r. ⌜ (r ≤ count) × (r ≡ place (lower-sum (now (sums .entry))) k (take count (now (numbers .entry)))) ⌝ }
-{
+    let mut best = m;
+    let mut least = 0.0;
     let mut i = 0;
-    while i < count {
-        let e = numbers[i];
-        if sums[k] < sums[e] {
-            return i;
+    while i < m {
+        let end = heads[i];
+        if end < n {
+            let sum = starts[i] + ends[end];
+            if best == m {
+                best = i;
+                least = sum;
+            } else if sum < least {
+                best = i;
+                least = sum;
+            }
         }
         i += 1;
     }
-    i
+    best
 }
 
-// Number k goes to the place `at` of the first `count`; those from there on move up.
-fn put_in(numbers: &mut [usize], count: usize, at: usize, k: usize)
-    requires { ⌜ (at ≤ count) × (count < length (now numbers)) ⌝ }
-    ensures { λ _. ⌜ take (count + 1) (now (numbers .exit)) ≡ take at (now (numbers .entry)) ++ (k ∷ take (count - at) (drop at (now (numbers .entry)))) ⌝ }
+// The next pair of those that are left; its start's head moves on.
+pub fn next_pair(starts: &[f64], m: usize, ends: &[f64], n: usize, heads: &mut [usize]) -> Next
+    requires { ⌜ (m ≤ length (now starts)) × (n ≤ length (now ends)) × (m ≤ length (now heads)) × ((i : ℕ) × (i < m) × (getD (now heads) i 0 < n)) ⌝ }
+    ensures { λ r. ⌜ (r .start < m) × (r .end < n) × ((xs ys : List Candidate) → Scored (now (starts .entry)) (now (ends .entry)) m n xs ys → sort by-sum (left xs ys (take m (now (heads .entry)))) ≡ pair (getD xs (r .start) no-candidate) (getD ys (r .end) no-candidate) ∷ sort by-sum (left xs ys (take m (now (heads .exit))))) ⌝ }
 {
-    let mut i = count;
-    while at < i {
-        let before = i - 1;
-        let e = numbers[before];
-        numbers[i] = e;
-        i = before;
-    }
-    numbers[at] = k;
-}
-
-// The numbers below `count` in the order of their sums.
-fn sort_numbers(sums: &[f64], numbers: &mut [usize], count: usize)
-    requires { ⌜ (count ≤ length (now numbers)) × (count ≤ length (now sums)) ⌝ }
-    ensures { λ _. ⌜ take count (now (numbers .exit)) ≡ sorted (now (sums .entry)) count ⌝ }
-{
-    let mut k = 0;
-    while k < count {
-        let at = place(sums, numbers, k, k);
-        put_in(numbers, k, at, k);
-        k += 1;
-    }
-}
-
-// The numbers of a leg's pairs in the order of their sums, equal sums in the order of the pairs.
-pub fn sorted_pairs(
-    starts: [Candidate; 10],
-    start_count: usize,
-    ends: [Candidate; 10],
-    end_count: usize,
-) -> [usize; 100]
-    ensures { λ r. ⌜ Sorted starts ends «start_count» «end_count» r ⌝ }
-{
-    let m = tried(start_count);
-    let n = tried(end_count);
-    let mut sums = [0.0f64; 100];
-    let mut numbers = [0usize; 100];
-    fill_sums(&mut sums, starts, m, ends, n);
-    sort_numbers(&sums, &mut numbers, m * n);
-    numbers
+    let start = least_head(starts, m, ends, n, heads);
+    let end = heads[start];
+    heads[start] = end + 1;
+    Next { start, end }
 }

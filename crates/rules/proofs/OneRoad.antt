@@ -18,19 +18,10 @@ use Rattle.model.specs.View.{allows}
 use Rattle.model.specs.Legs.{Pair, Scored, pair, pairs, leg-pairs, close, take-close, try-same-edge-solution}
 use Rattle.model.proofs.Members.{getD-map}
 use Rattle.candidates.specs.Found.{no-candidate, tried}
+use Rattle.candidates.proofs.Folds.{fold-append, fold-one-more}
 use Rattle.rules.proofs.Closeness.{close-start, close-left}
 
 -- ---- lists
-
-module _ {A B : Type 0} (f : B → A → B) where
-  fold-append : (b : B) (l m : List A) → fold f b (l ++ m) ≡ fold f (fold f b l) m
-  unfolding fold
-  fold-append b [] m = refl
-  fold-append b (x ∷ l) m = fold-append (f b x) l m
-
-  fold-one-more : (b : B) (l : List A) (j : ℕ) (d : A) → j < length l → fold f b (take (j + 1) l) ≡ f (fold f b (take j l)) (getD l j d)
-  unfolding fold
-  fold-one-more b l j d h = rw (add-one j, take-suc l j d h, fold-append b (take j l) (getD l j d ∷ []))
 
 pairs-append : (xs zs ys : List Candidate) → pairs (xs ++ zs) ys ≡ pairs xs ys ++ pairs zs ys
 unfolding pairs

@@ -1,8 +1,8 @@
 use borrow.Author.Needs.{needs}
 use denote.Ref.{now}
 use Rattle.pairs.proofs.NextLaws.{next-left}
-use Rattle.pairs.proofs.next.next_pair.Statement.{statement}
-use Rattle.pairs.proofs.next.next_pair.Tie as tie
+use Rattle.pairs.proofs.next_pair.Statement.{statement}
+use Rattle.pairs.proofs.next_pair.Tie as tie
 
 least-head-requires : tie.Need-least-head-requires
 least-head-requires c κs = search needs

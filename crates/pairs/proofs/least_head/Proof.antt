@@ -3,8 +3,8 @@ use mathlib.Core.Logic.{⊎-elim}
 use native.Mathlib.Omega.{arith}
 use Rattle.pairs.specs.Left.{head-sum}
 use Rattle.pairs.proofs.Heads.{Best, best-none, best-skip, best-first, best-lower, best-stays, best-end}
-use Rattle.pairs.proofs.next.least_head.Statement.{statement}
-use Rattle.pairs.proofs.next.least_head.Tie as tie
+use Rattle.pairs.proofs.least_head.Statement.{statement}
+use Rattle.pairs.proofs.least_head.Tie as tie
 
 abbrev Inv-loop : tie.InvT-loop
 Inv-loop starts m ends n heads best₀ least₀ i₀ best least i =
