@@ -16,7 +16,7 @@ use Rattle.model.specs.Legs.{Coverage}
 use Rattle.model.specs.Decode.{same-number, cover}
 use Rattle.model.proofs.Members.{length-tab, getD-table}
 use Rattle.bounds.proofs.Choices.{same-or-other}
-use Rattle.pairs.proofs.PairLaws.{fold-one-more}
+use Rattle.candidates.proofs.Folds.{fold-one-more}
 use Rattle.search.proofs.Tables.{table-set, table-more}
 use Rattle.courses.specs.declared.Cover.{Cover}
 use Rattle.search.specs.Answers.{Numbers}

@@ -6,7 +6,6 @@ use mathlib.Core.Option.{Option}
 use mathlib.Core.List.{List}
 use native.Mathlib.Omega.{arith}
 use lib.ListN.{take}
-use lib.Seq.{take-take}
 use lib.Ieee.{Float}
 use Rattle.model.specs.declared.Counts.{Counts}
 use Rattle.model.specs.declared.Point.{Point}
@@ -14,17 +13,15 @@ use Rattle.model.specs.declared.Limits.{Limits}
 use Rattle.model.specs.Layout.{points-bytes}
 use Rattle.model.specs.Sheet.{Stop, Sheet, sheet-of, road-at, point-of, stop-of}
 use Rattle.model.specs.View.{limits-of}
-use Rattle.model.specs.declared.Candidate.{Candidate}
 use Rattle.model.specs.Legs.{Coverage, find-best-path}
 use Rattle.model.specs.Legs as model
 use Rattle.model.proofs.Parsed.{stop-is}
-use Rattle.candidates.specs.declared.find.Candidates.{Candidates}
-use Rattle.candidates.specs.Found.{no-stop, candidates-at, Found}
+use Rattle.candidates.specs.Found.{no-stop, candidates-at}
 use Rattle.rules.specs.declared.Route.{Route}
 use Rattle.rules.specs.Code.{path-of}
 use Rattle.legs.specs.declared.Sought as legs
 use Rattle.legs.specs.declared.Sought.the-variants as S
-use Rattle.legs.specs.Found.{seek-at, sought-of, Inside}
+use Rattle.legs.specs.Found.{seek-at, sought-of}
 use Rattle.search.specs.Answers.{Numbers}
 use Rattle.courses.specs.Left.{covers, Known, numbers-of, fresh, coverages-at, cover-all}
 use Rattle.courses.proofs.Appended.{numbers-are, numbers-of-roads}
@@ -37,15 +34,11 @@ pub limits-are : (s : List ℕ) (c : Counts) (i : ℕ) → i < c .p → (p : Poi
 unfolding stop-of
 limits-are s c i h p is = ap (limits-of (sheet-of s c .settings)) (is ∙ ap (λ (x : Stop). x .point) (sym (stop-is s c i h no-stop)))
 
--- the candidates run between the sheet's nodes
-pub inside : {t : Sheet} {c : Counts} {i : ℕ} {r : Candidates} → Found t c i r → Inside (c .n) r
-inside f = λ k h. (f .items k h .source, f .items k h .target)
-
--- what a leg finds, with its limits and the candidates that it tries at hand
-pub sought-is : (t : Sheet) (slots i : ℕ) {b : Limits} {xs ys : List Candidate} → b ≡ leg-limits t i → xs ≡ take 10 (candidates-at t i) → ys ≡ take 10 (candidates-at t (i + 1))
-    → find-best-path b (seek-at t slots b) xs ys ≡ leg-sought t slots i
-unfolding leg-sought find-best-path
-sought-is t slots i limits starts ends = rw (limits, starts, ends, take-take 10 10 (candidates-at t i) (omega arith), take-take 10 10 (candidates-at t (i + 1)) (omega arith))
+-- what a leg finds, with its limits and the numbers of its points at hand
+pub sought-is : (t : Sheet) (slots i : ℕ) {b : Limits} {j k : ℕ} → b ≡ leg-limits t i → j ≡ i → k ≡ i + 1
+    → find-best-path b (seek-at t slots b) (candidates-at t j) (candidates-at t k) ≡ leg-sought t slots i
+unfolding leg-sought
+sought-is t slots i limits start end = rw (limits, start, end)
 
 pub known-route : {t : Sheet} {c : Counts} {x : legs.Sought} {area : List ℕ} {r : Route} → x ≡ S.Best r → KnownAs t c x area → Known t c r area
 unfolding KnownAs

@@ -20,7 +20,7 @@ ghost use Rattle.model.specs.Sheet.{sheet-of, road-at};
 ghost use Rattle.search.specs.Areas.{columns, Sized};
 ghost use Rattle.legs.specs.Found.{sought-of};
 ghost use Rattle.search.specs.Answers.{Numbers};
-ghost use Rattle.candidates.specs.Ranking.{RanksTo};
+ghost use Rattle.candidates.specs.Ranking.{RanksTo, ScoresTo};
 ghost use Rattle.courses.specs.Left.{last-of, coverages-at};
 ghost use Rattle.lines.specs.Legs.{leg-limits, leg-sought, KnownAs, Leaves};
 
@@ -78,6 +78,7 @@ pub fn walk_leg(
     c: Counts,
     set: Settings,
     ranks: &[u8],
+    scores: &[f64],
     i: usize,
     summed: bool,
     last: Last,
@@ -96,16 +97,16 @@ pub fn walk_leg(
     coverage: &mut [f64],
     out: &mut [u64],
 ) -> LegEnd
-    requires { ⌜ WellFormed (now s) c × (set ≡ sheet-of (now s) c .settings) × (0 < c .n) × (i + 1 < c .p) × Numbers (c .e) n0 (now covered) × (1040 ≤ length (now ranks)) × RanksTo (now s) c (c .p) (now ranks) ⌝ }
+    requires { ⌜ WellFormed (now s) c × (set ≡ sheet-of (now s) c .settings) × (0 < c .n) × (i + 1 < c .p) × Numbers (c .e) n0 (now covered) × (1040 ≤ length (now ranks)) × RanksTo (now s) c (c .p) (now ranks) × (160 ≤ length (now scores)) × ScoresTo (now s) c (c .p) (now scores) ⌝ }
     requires { ⌜ (n0 + c .n + 1 ≤ length (now covered)) × (n0 + c .n + 1 ≤ length (now coverage)) × (c .n + 1 ≤ length (now out)) ⌝ }
     requires { ⌜ (0 < slots) × (c .n ≤ length (now route)) × (c .n ≤ length (now «best_route»)) × Sized (c .n) slots (columns (now real) (now penalised) (now «came_from») (now key) (now cost) (now node) (now order) 0 0) ⌝ }
     ensures { λ r. ⌜ Leaves (sheet-of (now (s .entry)) c) c summed (leg-limits (sheet-of (now (s .entry)) c) i .dnp) (last-of last) (coverages-at (sheet-of (now (s .entry)) c) n0 (now (covered .entry)) (now (coverage .entry))) n0
         (leg-sought (sheet-of (now (s .entry)) c) slots i) (now (out .exit)) (now (covered .exit)) (now (coverage .exit)) r ⌝ }
 {
     let b = leg_limits(s, c, set, i);
-    let starts = find::find_candidates(s, c, set, i, ranks);
+    let starts = find::shortlist_of(s, c, i, ranks);
     let next = i + 1;
-    let ends = find::find_candidates(s, c, set, next, ranks);
+    let ends = find::shortlist_of(s, c, next, ranks);
     let found = legs::find_best_path(
         s,
         c,
@@ -113,6 +114,8 @@ pub fn walk_leg(
         b,
         starts,
         ends,
+        ranks,
+        scores,
         slots,
         real,
         penalised,
