@@ -8,7 +8,7 @@ use Rattle.model.specs.declared.Counts.{Counts}
 use Rattle.model.specs.Layout.{most-points}
 use Rattle.model.specs.Sheet.{Sheet}
 use Rattle.model.specs.Decode as decode
-use Rattle.candidates.specs.Ranking.{RanksTo}
+use Rattle.candidates.specs.Ranking.{RanksTo, ScoresTo}
 use Rattle.lines.specs.declared.Course.{Course}
 use Rattle.lines.specs.declared.End.{End}
 use Rattle.lines.specs.declared.End.the-variants as D
@@ -54,24 +54,24 @@ module _ (t : Sheet) (c : Counts) (x : A.the-data) (looks : Looks t c x) where
   unfolding Looks
   point-ahead is = rw is at looks
 
--- ---- the ranks of all points
+-- ---- the ranks and the scores of all points
 
-module _ (s : List ℕ) (c : Counts) (ranks : List ℕ) where
-  pub ranked-refused : (n a : ℕ) → RankedFor s c (A.Refused n a) ranks
+module _ (s : List ℕ) (c : Counts) (ranks : List ℕ) (scores : List Float) where
+  pub ranked-refused : (n a : ℕ) → RankedFor s c (A.Refused n a) ranks scores
   unfolding RankedFor
   ranked-refused n a = tt
 
-  pub ranked-all : RanksTo s c (c .p) ranks → (x : Ahead) → RankedFor s c x ranks
+  pub ranked-all : RanksTo s c (c .p) ranks × ScoresTo s c (c .p) scores → (x : Ahead) → RankedFor s c x ranks scores
   unfolding RankedFor
   ranked-all h (A.Refused n a) = tt
   ranked-all h A.Line = h
   ranked-all h A.PointAlongLine = h
 
-  pub line-ranked : {x : Ahead} → x ≡ A.Line → RankedFor s c x ranks → RanksTo s c (c .p) ranks
+  pub line-ranked : {x : Ahead} → x ≡ A.Line → RankedFor s c x ranks scores → RanksTo s c (c .p) ranks × ScoresTo s c (c .p) scores
   unfolding RankedFor
   line-ranked is h = rw is at h
 
-  pub point-ranked : {x : Ahead} → x ≡ A.PointAlongLine → RankedFor s c x ranks → RanksTo s c (c .p) ranks
+  pub point-ranked : {x : Ahead} → x ≡ A.PointAlongLine → RankedFor s c x ranks scores → RanksTo s c (c .p) ranks × ScoresTo s c (c .p) scores
   unfolding RankedFor
   point-ranked is h = rw is at h
 

@@ -47,11 +47,11 @@ fn legs_of(kind: usize) -> Ahead
     Ahead::Line
 }
 
-// Refusals 7 to 9, in the order of the table. Where the legs come, the ranks of all points stand in `ranks`.
-pub fn look_ahead(s: &[u8], c: Counts, ranks: &mut [u8]) -> Ahead
-    requires { ⌜ WellFormed (now s) c × (1040 ≤ length (now ranks)) ⌝ }
+// Refusals 7 to 9, in the order of the table. Where the legs come, the ranks of all points stand in `ranks`, and the scores that legs ask for in `scores`.
+pub fn look_ahead(s: &[u8], c: Counts, ranks: &mut [u8], scores: &mut [f64]) -> Ahead
+    requires { ⌜ WellFormed (now s) c × (1040 ≤ length (now ranks)) × (160 ≤ length (now scores)) ⌝ }
     ensures looks { λ r. ⌜ Looks (sheet-of (now (s .entry)) c) c r ⌝ }
-    ensures ranked { λ r. ⌜ RankedFor (now (s .entry)) c r (now (ranks .exit)) ⌝ }
+    ensures ranked { λ r. ⌜ RankedFor (now (s .entry)) c r (now (ranks .exit)) (now (scores .exit)) ⌝ }
 {
     if POINT_ALONG_LINE < c.kind {
         return Ahead::Refused(7, c.kind);
@@ -59,7 +59,7 @@ pub fn look_ahead(s: &[u8], c: Counts, ranks: &mut [u8]) -> Ahead
     if c.p == 0 {
         return Ahead::Refused(8, 0);
     }
-    let found = closest::require_candidates(s, c, ranks);
+    let found = closest::require_candidates(s, c, ranks, scores);
     match found {
         Points::Fine => legs_of(c.kind),
         Points::NoCandidate(i) => Ahead::Refused(9, i),
@@ -80,7 +80,7 @@ fn ended(run: Legs) -> Outcome
     }
 }
 
-// A reference up to the walks at its ends, with ranks for 1,024 rows and the counts of 16 points: its path's road numbers in the front of `ids`, its coverages in the coverage areas.
+// A reference up to the walks at its ends, with ranks for 1,024 rows, the counts of 16 points and ten scores for each: its path's road numbers in the front of `ids`, its coverages in the coverage areas.
 pub fn decode_legs(
     s: &[u8],
     c: Counts,
@@ -105,7 +105,8 @@ pub fn decode_legs(
 {
     let set = points::settings(s, c);
     let mut ranks = [0u8; 1040];
-    let ahead = look_ahead(s, c, &mut ranks);
+    let mut scores = [0.0f64; 160];
+    let ahead = look_ahead(s, c, &mut ranks, &mut scores);
     match ahead {
         Ahead::Refused(number, place) => Outcome::Refused(number, place, 0),
         Ahead::Line => {
@@ -114,6 +115,7 @@ pub fn decode_legs(
                 c,
                 set,
                 &ranks,
+                &scores,
                 slots,
                 real,
                 penalised,
@@ -136,6 +138,7 @@ pub fn decode_legs(
                 c,
                 set,
                 &ranks,
+                &scores,
                 slots,
                 real,
                 penalised,

@@ -1,7 +1,7 @@
-use native.Mathlib.Omega.{arith}
-use mathlib.Core.Path.{refl, sym, _∙_}
-use Rattle.references.proofs.Ending.{ranked-refused, ranked-all}
 use Rattle.references.proofs.Beginning.{other-kind, no-points, no-candidate, legs-come}
+use Rattle.references.proofs.Ending.{ranked-refused, ranked-all}
+use mathlib.Core.Path.{refl, sym, _∙_}
+use native.Mathlib.Omega.{arith}
 use borrow.Author.Needs.{needs}
 use Rattle.references.proofs.look_ahead.Statement.{statement}
 use Rattle.references.proofs.look_ahead.Tie as tie
@@ -12,15 +12,15 @@ use Rattle.references.proofs.legs_of.Reads as legs-of-reads
 
 -- src/lib.rt:57:9
 returns : tie.Need-returns
-returns c = (other-kind (c .before .before .before .before .args .s .now) (c .before .before .before .before .args .c) (c .before .before .before .before .pre .0) (c .if1 .taken), ranked-refused _ _ _ _ _)
+returns c = (other-kind (c .before .before .before .before .before .args .s .now) (c .before .before .before .before .before .args .c) (c .before .before .before .before .before .pre .0) (c .if1 .taken), ranked-refused _ _ _ _ _ _)
 
 -- src/lib.rt:60:9
 returns-2 : tie.Need-returns-2
-returns-2 c = (no-points (c .before .before .before .before .before .before .args .s .now) (c .before .before .before .before .before .before .args .c) (c .before .before .before .before .before .before .pre .0) (c .before .before .if1 .left) (c .if2 .taken), ranked-refused _ _ _ _ _)
+returns-2 c = (no-points (c .before .before .before .before .before .before .before .args .s .now) (c .before .before .before .before .before .before .before .args .c) (c .before .before .before .before .before .before .before .pre .0) (c .before .before .if1 .left) (c .if2 .taken), ranked-refused _ _ _ _ _ _)
 
 -- src/lib.rt:62:9
 require-candidates-requires : tie.Need-require-candidates-requires
-require-candidates-requires c κs = (c .before .before .before .before .before .before .before .pre .0, c .before .before .before .before .before .before .before .pre .1)
+require-candidates-requires c κs = c .before .before .before .before .before .before .before .before .before .pre
 
 -- src/lib.rt:64:25
 enum-told : tie.Need-enum-told
@@ -39,19 +39,27 @@ same-length : tie.Need-same-length
 same-length c = search needs
 
 -- src/lib.rt:51:1
-returns-3 : tie.Need-returns-3
-returns-3 c = (
-  legs-come (c .before .before .before .before .before .before .before .before .before .before .before .before .before .args .s .now) (c .before .before .before .before .before .before .before .before .before .before .before .before .before .args .c) (c .before .before .before .before .before .before .before .before .before .before .before .before .before .pre .0) (c .before .before .before .before .before .before .before .before .before .if1 .left) (omega (arith, c .before .before .before .before .before .before .before .if2 .left)) (sym (c .before .enum-told .given .1) ∙ c .before .before .before .before .before .require-candidates .ensures .0) (c .legs-of .result) (c .legs-of .ensures),
-  ranked-all _ _ _ (c .before .before .before .before .before .require-candidates .ensures .1 (c .before .enum-told .given .1)) (c .legs-of .result),
-)
-
--- src/lib.rt:51:1
 same-length-2 : tie.Need-same-length-2
 same-length-2 c = search needs
 
 -- src/lib.rt:51:1
+returns-3 : tie.Need-returns-3
+returns-3 c = (
+    legs-come (c .before .before .before .before .before .before .before .before .before .before .before .before .before .before .before .before .before .args .s .now) (c .before .before .before .before .before .before .before .before .before .before .before .before .before .before .before .before .before .args .c) (c .before .before .before .before .before .before .before .before .before .before .before .before .before .before .before .before .before .pre .0) (c .before .before .before .before .before .before .before .before .before .before .before .before .if1 .left) (omega (arith, c .before .before .before .before .before .before .before .before .before .before .if2 .left)) (sym (c .before .enum-told .given .1) ∙ c .before .before .before .before .before .before .before .require-candidates .ensures .0) (c .legs-of .result) (c .legs-of .ensures),
+    ranked-all _ _ _ _ (c .before .before .before .before .before .before .before .require-candidates .ensures .1 (c .before .enum-told .given .1)) (c .legs-of .result),
+    )
+
+-- src/lib.rt:51:1
+same-length-3 : tie.Need-same-length-3
+same-length-3 c = search needs
+
+-- src/lib.rt:51:1
+same-length-4 : tie.Need-same-length-4
+same-length-4 c = search needs
+
+-- src/lib.rt:51:1
 returns-4 : tie.Need-returns-4
-returns-4 c = (no-candidate (c .before .before .before .before .before .before .before .before .before .before .before .before .before .args .s .now) (c .before .before .before .before .before .before .before .before .before .before .before .before .before .args .c) (c .before .before .before .before .before .before .before .before .before .before .before .before .before .pre .0) (c .before .before .before .before .before .before .before .before .before .if1 .left) _ (sym (c .before .found .given .1) ∙ c .before .before .before .before .before .require-candidates .ensures .0), ranked-refused _ _ _ _ _)
+returns-4 c = (no-candidate (c .before .before .before .before .before .before .before .before .before .before .before .before .before .before .before .before .before .args .s .now) (c .before .before .before .before .before .before .before .before .before .before .before .before .before .before .before .before .before .args .c) (c .before .before .before .before .before .before .before .before .before .before .before .before .before .before .before .before .before .pre .0) (c .before .before .before .before .before .before .before .before .before .before .before .before .if1 .left) _ (sym (c .before .found .given .1) ∙ c .before .before .before .before .before .before .before .require-candidates .ensures .0), ranked-refused _ _ _ _ _ _)
 
 pub look-ahead-spec : {M : Type 1} → statement M
 look-ahead-spec =
@@ -64,6 +72,8 @@ look-ahead-spec =
     legs-of-requires
     enum-known-found
     same-length
-    returns-3
     same-length-2
+    returns-3
+    same-length-3
+    same-length-4
     returns-4)
