@@ -1,4 +1,4 @@
--- The best route on one road, start by start and end by end. A start that is far, or an end on another road, changes nothing.
+-- The best route on one road, start by start and end by end. An end on another road changes nothing.
 use Prim.Native.Nat.{ℕ, _+_, _<_, _≤_}
 use mathlib.Core.Path.{_≡_, refl, sym, ap, _∙_, subst}
 use mathlib.Core.Bool.{Bool, true, false, _&&_}
@@ -19,7 +19,7 @@ use Rattle.model.specs.Legs.{Pair, Scored, pair, pairs, leg-pairs, close, take-
 use Rattle.model.proofs.Members.{getD-map}
 use Rattle.candidates.specs.Found.{no-candidate, tried}
 use Rattle.candidates.proofs.Folds.{fold-append, fold-one-more}
-use Rattle.rules.proofs.Closeness.{close-start, close-left}
+use Rattle.rules.proofs.Closeness.{close-left}
 
 -- ---- lists
 
@@ -52,15 +52,6 @@ module _ (b : Limits) (x : Candidate) (ys : List Candidate) (old : Option Scored
 
   pub ends-done : (j : ℕ) → length ys ≤ j → (best : Option Scored) → best ≡ fold (take-close b) old (take j (map (pair x) ys)) → best ≡ fold (take-close b) old (map (pair x) ys)
   ends-done j h best e = e ∙ ap (fold (take-close b) old) (take-all j (map (pair x) ys) (rw (length-map ys (pair x)) h))
-
-  -- none of a far start
-  pub far : x .distance ≤ᶠ f10 ≡ false → old ≡ fold (take-close b) old (map (pair x) ys)
-  unfolding fold
-  far e = go ys
-    where
-      go : (ys : List Candidate) → old ≡ fold (take-close b) old (map (pair x) ys)
-      go [] = refl
-      go (y ∷ ys) = go ys ∙ ap (λ (o : Option Scored). fold (take-close b) o (map (pair x) ys)) (close-left b (pair x y) old (sym (close-start b (pair x y) e)))
 
 -- ---- one start more
 

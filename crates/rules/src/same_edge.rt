@@ -1,14 +1,14 @@
 // The best route on one road.
 ghost use mathlib.Core.Path.{_≡_};
 ghost use mathlib.Core.List.{List, map};
-ghost use Prim.Native.Nat.{ℕ, _≤_};
-ghost use lib.ListN.{length, take};
+ghost use Prim.Native.Nat.{ℕ, _≤_, _<_};
+ghost use lib.ListN.{length, take, getD};
 ghost use Rattle.model.specs.declared.Road.{Road};
 ghost use Rattle.model.specs.Lists.{fold};
 ghost use Rattle.model.specs.Judge.{WellFormed};
 ghost use Rattle.model.specs.Sheet.{sheet-of};
 ghost use Rattle.model.specs.Legs.{pair, leg-pairs, close, take-close, try-same-edge-solution};
-ghost use Rattle.candidates.specs.Found.{candidates-at, Listed};
+ghost use Rattle.candidates.specs.Found.{candidates-at, no-candidate, Listed};
 ghost use Rattle.candidates.specs.Ranking.{RanksAt};
 ghost use Rattle.rules.specs.Code.{best-of, Stands};
 use crate::Best;
@@ -48,51 +48,33 @@ fn take_close(b: Limits, best: Best, start: Candidate, end: Candidate) -> Best
     best
 }
 
-// The best so far after the pairs of one start, a candidate of the leg's first point: only ends on its road can change it.
+// The best so far after the pairs of start i: only an end on its road can change it, so candidates are made for such a pair alone.
 fn take_ends(
     s: &[u8],
     c: Counts,
     set: Settings,
     b: Limits,
-    start: Candidate,
+    starts: Shortlist,
+    i: usize,
     ends: Shortlist,
     ranks: &[u8],
     before: Best,
 ) -> Best
-    requires { ⌜ WellFormed (now s) c × (set ≡ sheet-of (now s) c .settings) × Listed (now s) c ends × (1040 ≤ length (now ranks)) × RanksAt (now s) c (ends .number) (now ranks) ⌝ }
-    ensures { λ r. ⌜ ((roads : ℕ → Road) (area : List ℕ) → best-of roads r area ≡ fold (take-close b) (best-of roads before area) (map (pair start) (take 10 (candidates-at (sheet-of (now (s .entry)) c) (ends .number))))) ⌝ }
+    requires { ⌜ WellFormed (now s) c × (set ≡ sheet-of (now s) c .settings) × Listed (now s) c starts × Listed (now s) c ends × (i < starts .count) × (1040 ≤ length (now ranks)) × RanksAt (now s) c (starts .number) (now ranks) × RanksAt (now s) c (ends .number) (now ranks) ⌝ }
+    ensures { λ r. ⌜ ((roads : ℕ → Road) (area : List ℕ) → best-of roads r area ≡ fold (take-close b) (best-of roads before area) (map (pair (getD (candidates-at (sheet-of (now (s .entry)) c) (starts .number)) i no-candidate)) (take 10 (candidates-at (sheet-of (now (s .entry)) c) (ends .number))))) ⌝ }
 {
-    let road = start.road.number;
+    let road = find::road_at(s, c, starts, ranks, i);
     let mut best = before;
     let mut j = 0;
     while j < ends.count {
         if find::road_at(s, c, ends, ranks, j) == road {
+            let start = find::candidate_at(s, c, set, starts, ranks, i);
             let end = find::candidate_at(s, c, set, ends, ranks, j);
             best = take_close(b, best, start, end);
         }
         j += 1;
     }
     best
-}
-
-// The best so far after one start: one that is far from its point has no pair.
-fn take_start(
-    s: &[u8],
-    c: Counts,
-    set: Settings,
-    b: Limits,
-    start: Candidate,
-    ends: Shortlist,
-    ranks: &[u8],
-    before: Best,
-) -> Best
-    requires { ⌜ WellFormed (now s) c × (set ≡ sheet-of (now s) c .settings) × Listed (now s) c ends × (1040 ≤ length (now ranks)) × RanksAt (now s) c (ends .number) (now ranks) ⌝ }
-    ensures { λ r. ⌜ ((roads : ℕ → Road) (area : List ℕ) → best-of roads r area ≡ fold (take-close b) (best-of roads before area) (map (pair start) (take 10 (candidates-at (sheet-of (now (s .entry)) c) (ends .number))))) ⌝ }
-{
-    if start.distance <= 10.0 {
-        return take_ends(s, c, set, b, start, ends, ranks, before);
-    }
-    before
 }
 
 // The best route on one road over all pairs with both points close to it, if there is one. It wins outright.
@@ -111,8 +93,7 @@ pub fn try_same_edge_solution(
     let mut best = routes::no_best();
     let mut i = 0;
     while i < starts.count {
-        let start = find::candidate_at(s, c, set, starts, ranks, i);
-        best = take_start(s, c, set, b, start, ends, ranks, best);
+        best = take_ends(s, c, set, b, starts, i, ends, ranks, best);
         i += 1;
     }
     best
