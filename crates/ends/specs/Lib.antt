@@ -1,3 +1,4 @@
--- What a walk and the ends leave in the list of the path.
+-- The first road of a walk, and what a walk and the ends leave in the list of the path.
+pub mod First
 pub mod Post
 pub mod Whole

@@ -8,7 +8,7 @@ ghost use Prim.Native.Nat.{_<_};
 ghost use Rattle.model.specs.Judge.{WellFormed};
 ghost use Rattle.model.specs.Sheet.{sheet-of};
 ghost use Rattle.model.specs.Ends.{grown, is-valid-node, forced-continuation, forced-predecessor};
-ghost use Rattle.road_network.specs.Graph.{roads-read, Forces};
+ghost use Rattle.road_network.specs.Graph.{roads-read, Forces, way-on, way-back};
 ghost use Rattle.road_network.specs.Near.{is-second, fresh, meets, meets-road, Few, is-through, has-choice};
 
 // The neighbours of a node that are met so far, or that there is a choice.
@@ -183,15 +183,12 @@ pub fn is_valid_node(s: &[u8], c: Counts, v: usize) -> bool
     tested.valid
 }
 
-// The way on from the end of road r that is no U-turn, where the node gives no choice.
-pub fn forced_continuation(s: &[u8], c: Counts, r: usize) -> Forced
+// The way on from the end of road r that is no U-turn, whatever choice the node gives.
+pub fn way_on(s: &[u8], c: Counts, r: usize) -> Forced
     requires { ⌜ WellFormed (now s) c × (r < c .e) ⌝ }
-    ensures { λ f. ⌜ Forces (forced-continuation (sheet-of (now (s .entry)) c) r) (c .e) f ⌝ }
+    ensures { λ f. ⌜ Forces (way-on (sheet-of (now (s .entry)) c) r) (c .e) f ⌝ }
 {
     let v = roads::target(s, c, r);
-    if is_valid_node(s, c, v) {
-        return Forced::Free;
-    }
     let from = roads::source(s, c, r);
     let mut j = roads::start(s, c, v);
     let end = roads::start(s, c, v + 1);
@@ -205,15 +202,12 @@ pub fn forced_continuation(s: &[u8], c: Counts, r: usize) -> Forced
     Forced::Free
 }
 
-// The way into the start of road r that is no U-turn, where the node gives no choice.
-pub fn forced_predecessor(s: &[u8], c: Counts, r: usize) -> Forced
+// The way into the start of road r that is no U-turn, whatever choice the node gives.
+pub fn way_back(s: &[u8], c: Counts, r: usize) -> Forced
     requires { ⌜ WellFormed (now s) c × (r < c .e) ⌝ }
-    ensures { λ f. ⌜ Forces (forced-predecessor (sheet-of (now (s .entry)) c) r) (c .e) f ⌝ }
+    ensures { λ f. ⌜ Forces (way-back (sheet-of (now (s .entry)) c) r) (c .e) f ⌝ }
 {
     let v = roads::source(s, c, r);
-    if is_valid_node(s, c, v) {
-        return Forced::Free;
-    }
     let to = roads::target(s, c, r);
     let e = c.e;
     let mut x = 0;
@@ -226,4 +220,28 @@ pub fn forced_predecessor(s: &[u8], c: Counts, r: usize) -> Forced
         x += 1;
     }
     Forced::Free
+}
+
+// The way on from the end of road r that is no U-turn, where the node gives no choice.
+pub fn forced_continuation(s: &[u8], c: Counts, r: usize) -> Forced
+    requires { ⌜ WellFormed (now s) c × (r < c .e) ⌝ }
+    ensures { λ f. ⌜ Forces (forced-continuation (sheet-of (now (s .entry)) c) r) (c .e) f ⌝ }
+{
+    let v = roads::target(s, c, r);
+    if is_valid_node(s, c, v) {
+        return Forced::Free;
+    }
+    way_on(s, c, r)
+}
+
+// The way into the start of road r that is no U-turn, where the node gives no choice.
+pub fn forced_predecessor(s: &[u8], c: Counts, r: usize) -> Forced
+    requires { ⌜ WellFormed (now s) c × (r < c .e) ⌝ }
+    ensures { λ f. ⌜ Forces (forced-predecessor (sheet-of (now (s .entry)) c) r) (c .e) f ⌝ }
+{
+    let v = roads::source(s, c, r);
+    if is_valid_node(s, c, v) {
+        return Forced::Free;
+    }
+    way_back(s, c, r)
 }
