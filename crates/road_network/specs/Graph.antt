@@ -1,4 +1,4 @@
--- How many roads the test of a node reads, the ways that a node without a choice forces, and such a way as an answer.
+-- How many roads the test of a node reads, nodes with many roads out, the ways that a node without a choice forces, and such a way as an answer.
 use Prim.Native.Nat.{ℕ, suc, _<_}
 use mathlib.Core.Path.{_≡_}
 use mathlib.Core.Bool.{Bool, _||_, _&&_, not, cond}
@@ -25,6 +25,10 @@ reads t v xs (r ∷ rs) = cond (settled v (meet-road v xs (road-at t r))) 1 (suc
 -- the roads read of all, by rising number
 abbrev pub roads-read : Sheet → ℕ → ℕ
 roads-read t v = reads t v [] (numbers t)
+
+-- more than two roads out
+unfoldable pub is-fork : Sheet → ℕ → Bool
+is-fork t v = ltb 2 (length (list-at t v))
 
 -- the way on from the end of road r that is no U-turn, whatever choice the node gives
 unfoldable pub way-on : Sheet → ℕ → Option ℕ

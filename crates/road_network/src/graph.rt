@@ -8,7 +8,7 @@ ghost use Prim.Native.Nat.{_<_};
 ghost use Rattle.model.specs.Judge.{WellFormed};
 ghost use Rattle.model.specs.Sheet.{sheet-of};
 ghost use Rattle.model.specs.Ends.{grown, is-valid-node, forced-continuation, forced-predecessor};
-ghost use Rattle.road_network.specs.Graph.{roads-read, Forces, way-on, way-back};
+ghost use Rattle.road_network.specs.Graph.{roads-read, is-fork, Forces, way-on, way-back};
 ghost use Rattle.road_network.specs.Near.{is-second, fresh, meets, meets-road, Few, is-through, has-choice};
 
 // The neighbours of a node that are met so far, or that there is a choice.
@@ -174,11 +174,24 @@ pub fn test_node(s: &[u8], c: Counts, v: usize) -> Tested
     }
 }
 
-// Whether node v is more than a place on the way through: a junction, an end, a merge or a split.
+// Whether more than two roads leave node v. Such a node is valid: a way through has at most two.
+pub fn is_fork(s: &[u8], c: Counts, v: usize) -> bool
+    requires { ⌜ WellFormed (now s) c × (v < c .n) ⌝ }
+    ensures { λ r. ⌜ r ≡ is-fork (sheet-of (now (s .entry)) c) v ⌝ }
+{
+    let from = roads::start(s, c, v);
+    let end = roads::start(s, c, v + 1);
+    2 < end - from
+}
+
+// Whether node v is more than a place on the way through: a junction, an end, a merge or a split. A fork needs no walk over the roads.
 pub fn is_valid_node(s: &[u8], c: Counts, v: usize) -> bool
-    requires { ⌜ WellFormed (now s) c ⌝ }
+    requires { ⌜ WellFormed (now s) c × (v < c .n) ⌝ }
     ensures { λ r. ⌜ r ≡ is-valid-node (sheet-of (now (s .entry)) c) v ⌝ }
 {
+    if is_fork(s, c, v) {
+        return true;
+    }
     let tested = test_node(s, c, v);
     tested.valid
 }
