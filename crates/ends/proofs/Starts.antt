@@ -1,46 +1,46 @@
--- A walk without a first road within the cap adds nothing: the way that is forced, if any, is the way that was sought.
-use Prim.Native.Nat.{ℕ, _*_}
-use mathlib.Core.Path.{_≡_, refl}
-use mathlib.Core.Bool.{Bool, true, false, not, cond}
+-- A walk adds nothing from a valid node, nor without a first way within the cap, whatever choice the node gives.
+use Prim.Native.Nat.{ℕ}
+use mathlib.Core.Path.{_≡_, refl, _∙_}
+use mathlib.Core.Bool.{Bool, true, false, cond}
 use mathlib.Core.Option.{Option, none, some}
 use mathlib.Core.List.{List, [], _++_}
 use lib.Ieee.{Float}
-use borrow.Author.Tests.{not-false}
 use Rattle.model.specs.Numbers.{_⊕_, _<ᶠ_, f0}
 use Rattle.model.specs.Lists.{maybe}
 use Rattle.model.specs.Sheet.{Sheet, road-at}
-use Rattle.model.specs.Ends.{Walk, is-valid-node, forced-continuation, forced-predecessor, way, fresh, with-road, meets, walked, walk, extension}
+use Rattle.model.specs.Ends.{is-valid-node, forced-continuation, forced-predecessor, way, meets, walked, walk, extension}
 use Rattle.road_network.specs.Graph.{way-on, way-back}
-use Rattle.ends.specs.First.{sought, starts}
+use Rattle.ends.specs.First.{first-node, first-way}
 
--- the node that a walk from road r meets first
-abbrev met-first : Sheet → Bool → ℕ → ℕ
-met-first t forward r = cond forward (road-at t r .target) (road-at t r .source)
+-- a test between none and none
+either-none : {A : Type 0} (b : Bool) → cond {A = Option A} b none none ≡ none
+either-none true = refl
+either-none false = refl
 
-way-sought : (t : Sheet) (forward : Bool) (r : ℕ) → way t forward r ≡ cond (is-valid-node t (met-first t forward r)) none (sought t forward r)
-unfolding way sought forced-continuation forced-predecessor way-on way-back
-way-sought t true r = refl
-way-sought t false r = refl
+-- a way is forced where the node is not valid
+way-is : (t : Sheet) (forward : Bool) (r : ℕ) → way t forward r ≡ cond (is-valid-node t (first-node t forward r)) none (first-way t forward r)
+unfolding way first-node first-way forced-continuation forced-predecessor way-on way-back
+way-is t true r = refl
+way-is t false r = refl
 
--- one turn with nothing added: no way, a way met again and a way past the cap all end it
-module _ (valid : Bool) (far met : ℕ → Bool) (rest : ℕ → Option Walk) where
-  first-turn : (o : Option ℕ) → maybe o false (λ x. not (far x)) ≡ false → maybe (cond valid none o) none (λ x. cond (met x) none (cond (far x) none (rest x))) ≡ none
-  unfolding maybe
-  first-turn none h = elim valid [ true ↦ refl | false ↦ refl ]
-  first-turn (some x) h = elim valid [ true ↦ refl | false ↦ rw (not-false (far x) h) (same (met x)) ]
+module _ (t : Sheet) (forward : Bool) (cap : Float) (path : List ℕ) (r : ℕ) where
+  none-forced : way t forward r ≡ none → extension t forward cap path r ≡ none
+  unfolding walk walked maybe
+  none-forced h = rw h
+
+  forced-far : (x : ℕ) → way t forward r ≡ some x → cap <ᶠ f0 ⊕ road-at t x .metres ≡ true → extension t forward cap path r ≡ none
+  unfolding walk maybe
+  forced-far x h q = rw (h, q) (either-none (meets x (path ++ [])))
+
+  pub valid-none : is-valid-node t (first-node t forward r) ≡ true → extension t forward cap path r ≡ none
+  valid-none h = none-forced (way-is t forward r ∙ rw h)
+
+  pub no-way-none : first-way t forward r ≡ none → extension t forward cap path r ≡ none
+  no-way-none h = none-forced (way-is t forward r ∙ rw h (either-none (is-valid-node t (first-node t forward r))))
+
+  pub far-none : {x : ℕ} {d : Float} → first-way t forward r ≡ some x → d ≡ road-at t x .metres → cap <ᶠ f0 ⊕ d ≡ true → extension t forward cap path r ≡ none
+  far-none {x} h g q = go (is-valid-node t (first-node t forward r)) refl
     where
-      same : (b : Bool) → cond {A = Option Walk} b none none ≡ none
-      same true = refl
-      same false = refl
-
-pub not-started : (t : Sheet) (forward : Bool) (cap : Float) (path : List ℕ) (r : ℕ) → starts t forward cap r ≡ false → extension t forward cap path r ≡ none
-unfolding starts walk walked
-not-started t forward cap path r h =
-    rw (way-sought t forward r)
-    (first-turn
-    (is-valid-node t (met-first t forward r))
-    (λ x. cap <ᶠ f0 ⊕ road-at t x .metres)
-    (λ x. meets x (path ++ []))
-    (λ x. walk (2 * t .nodes) t forward cap path x (with-road t x fresh))
-    (sought t forward r)
-    h)
+      go : (b : Bool) → is-valid-node t (first-node t forward r) ≡ b → extension t forward cap path r ≡ none
+      go true e = valid-none e
+      go false e = forced-far x (way-is t forward r ∙ rw (e, h)) (rw g at q)

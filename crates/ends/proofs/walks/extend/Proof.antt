@@ -1,5 +1,5 @@
 use Prim.Native.Nat.{_-_}
-use mathlib.Core.Path.{refl, sym, _∙_}
+use mathlib.Core.Path.{refl}
 use native.Mathlib.Omega.{arith}
 use lib.ListN.{length}
 use borrow.Author.Needs.{needs}
@@ -7,7 +7,6 @@ use borrow.Author.Tests.{not-true}
 use Rattle.model.specs.Sheet.{sheet-of}
 use Rattle.model.proofs.Parsed.{node-count}
 use Rattle.bounds.proofs.FormedProof.{well-formed-formed}
-use Rattle.ends.proofs.Starts.{not-started}
 use Rattle.ends.proofs.Turns.{Walking, walking-start, left-none, met-again, too-far, has-room, walking-step, dropped, kept}
 use Rattle.ends.proofs.walks.extend.Statement.{statement}
 use Rattle.ends.proofs.walks.extend.Tie as tie
@@ -20,11 +19,11 @@ abbrev μ-loop : tie.MeasureT-loop
 μ-loop s c forward cap ids₀ n r road₀ end₀ metres₀ ids road end metres =
     length ids₀ - end
 
-starts-requires : tie.Need-starts-requires Inv-loop μ-loop
-starts-requires c κs = (c .before .before .pre .0, c .before .before .pre .1)
+may-start-requires : tie.Need-may-start-requires Inv-loop μ-loop
+may-start-requires c κs = (c .before .before .pre .0, c .before .before .pre .1)
 
 returns : tie.Need-returns Inv-loop μ-loop
-returns c = record { front = refl; answer = not-started _ _ _ _ _ (sym (c .before .starts .ensures) ∙ not-true _ (c .if1 .taken)) }
+returns c = record { front = refl; answer = c .before .may-start .ensures (not-true _ (c .if1 .taken)) _ }
 
 loop-holds : tie.Need-loop-holds Inv-loop μ-loop
 loop-holds c = walking-start _ _ _ _ _ _ _ (rw (node-count _ _) (c .before .before .before .before .pre .2)) (c .before .before .before .before .pre .3) (c .before .before .before .before .pre .1)
@@ -92,7 +91,7 @@ extend-spec =
     (tie.spec
     Inv-loop
     μ-loop
-    starts-requires
+    may-start-requires
     returns
     loop-holds
     forced-requires
