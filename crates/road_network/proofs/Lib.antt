@@ -7,4 +7,5 @@ pub mod DrawingProof
 pub mod Runs
 pub mod Settling
 pub mod Kept
+pub mod Forks
 pub mod Ways

@@ -1,4 +1,4 @@
--- The two searches for a forced way: along the list of the road's end, and over all roads by rising number.
+-- The two searches for a way: along the list of the road's end, and over all roads by rising number. Where the node gives no choice it is forced.
 use Prim.Native.Nat.{ℕ, _+_, _-_, _≤_, _<_}
 use mathlib.Core.Path.{_≡_, sym, ap, _∙_}
 use mathlib.Core.Bool.{Bool, true, false, not, _&&_}
@@ -11,10 +11,11 @@ use borrow.Author.Tests.{eq-eqb, ne-eqb}
 use Rattle.model.specs.declared.Counts.{Counts}
 use Rattle.model.specs.Lists.{first, tab}
 use Rattle.model.specs.Judge.{WellFormed, start-of, entry-of}
-use Rattle.model.specs.Sheet.{Sheet, sheet-of, road-at, list-at, numbers}
+use Rattle.model.specs.Sheet.{Sheet, sheet-of, road-at}
 use Rattle.model.specs.Ends.{is-valid-node, forced-continuation, forced-predecessor}
 use Rattle.model.proofs.Parsed.{road-count}
 use Rattle.sheet.proofs.Parts.{part-is}
+use Rattle.road_network.specs.Graph.{way-on, way-back}
 use Rattle.road_network.proofs.Runs.{first-found, first-step, first-none}
 
 module _ (s : List ℕ) (c : Counts) (r : ℕ) where
@@ -29,21 +30,14 @@ module _ (s : List ℕ) (c : Counts) (r : ℕ) where
 
   -- What is sought from place j on is the way on.
   abbrev pub Ahead : ℕ → ℕ → Type 0
-  Ahead end j = first ahead (tab (end - j) j (entry-of s c)) ≡ forced-continuation t r
+  Ahead end j = first ahead (tab (end - j) j (entry-of s c)) ≡ way-on t r
 
-  module _ {v : ℕ} {b : Bool} (valid : b ≡ is-valid-node t v) (p : v ≡ road-at t r .target) where
-    pub ahead-free : b ≡ true → forced-continuation t r ≡ none
-    unfolding forced-continuation
-    ahead-free e = rw (sym p, sym valid, e)
-
-    pub ahead-start : b ≡ false → WellFormed s c → v < c .n → {j end : ℕ} → j ≡ start-of s c v → end ≡ start-of s c (v + 1) → Ahead end j
-    unfolding forced-continuation
-    ahead-start e ok h from to =
-        let f : forced-continuation t r ≡ first ahead (list-at t v) = rw (sym p, sym valid, e) in
-        rw (from, to) (sym (f ∙ ap (first ahead) (part-is s c ok v h)))
+  pub ahead-start : {v j end : ℕ} → v ≡ road-at t r .target → WellFormed s c → v < c .n → j ≡ start-of s c v → end ≡ start-of s c (v + 1) → Ahead end j
+  unfolding way-on
+  ahead-start {v} p ok h from to = rw (from, to, sym p) (sym (ap (first ahead) (part-is s c ok v h)))
 
   module _ {end j x w from : ℕ} (a : Ahead end j) (h : j < end) (q : x ≡ entry-of s c j) (u : w ≡ road-at t x .target) (f : from ≡ road-at t r .source) where
-    pub ahead-way : (w ≡ from → ⊥) → forced-continuation t r ≡ some x
+    pub ahead-way : (w ≡ from → ⊥) → way-on t r ≡ some x
     ahead-way d =
         let passes : ahead (entry-of s c j) ≡ true = ap not (ne-eqb _ _ (λ e. d (u ∙ ap (λ (y : ℕ). road-at t y .target) q ∙ e ∙ sym f))) in
         first-found ahead (entry-of s c) a h passes ∙ ap some (sym q)
@@ -53,7 +47,7 @@ module _ (s : List ℕ) (c : Counts) (r : ℕ) where
         let turns : ahead (entry-of s c j) ≡ false = ap not (eq-eqb _ _ (sym (ap (λ (y : ℕ). road-at t y .target) q) ∙ sym u ∙ d ∙ f)) in
         first-step ahead (entry-of s c) a h turns
 
-  pub ahead-end : {end j : ℕ} → Ahead end j → end ≤ j → forced-continuation t r ≡ none
+  pub ahead-end : {end j : ℕ} → Ahead end j → end ≤ j → way-on t r ≡ none
   ahead-end a h = first-none ahead (entry-of s c) a h
 
   -- ---- back, over all roads by rising number
@@ -64,19 +58,11 @@ module _ (s : List ℕ) (c : Counts) (r : ℕ) where
 
   -- What is sought from road x on is the way back.
   abbrev pub Behind : ℕ → Type 0
-  Behind x = first behind (tab (c .e - x) x (λ i. i)) ≡ forced-predecessor t r
+  Behind x = first behind (tab (c .e - x) x (λ i. i)) ≡ way-back t r
 
-  module _ {v : ℕ} {b : Bool} (valid : b ≡ is-valid-node t v) (p : v ≡ road-at t r .source) where
-    pub behind-free : b ≡ true → forced-predecessor t r ≡ none
-    unfolding forced-predecessor
-    behind-free e = rw (sym p, sym valid, e)
-
-    pub behind-start : b ≡ false → Behind 0
-    unfolding forced-predecessor
-    behind-start e =
-        let free : is-valid-node t (road-at t r .source) ≡ false = ap (is-valid-node t) (sym p) ∙ sym valid ∙ e in
-        let f : forced-predecessor t r ≡ first behind (numbers t) = rw free in
-        ap (λ (k : ℕ). first behind (tab k 0 (λ i. i))) {x = c .e - 0} {y = length (t .roads)} (omega (arith, road-count s c)) ∙ sym f
+  pub behind-start : Behind 0
+  unfolding way-back
+  behind-start = ap (λ (k : ℕ). first behind (tab k 0 (λ i. i))) {x = c .e - 0} {y = length (t .roads)} (omega (arith, road-count s c))
 
   module _ {x w v : ℕ} (a : Behind x) (h : x < c .e) (q : w ≡ road-at t x .target) (f : v ≡ road-at t r .source) where
     pub behind-other : (w ≡ v → ⊥) → Behind (x + 1)
@@ -88,7 +74,7 @@ module _ (s : List ℕ) (c : Counts) (r : ℕ) where
       into : eqb (road-at t x .target) (road-at t r .source) ≡ true
       into = eq-eqb _ _ (sym q ∙ o ∙ f)
 
-      pub behind-way : (u ≡ to → ⊥) → forced-predecessor t r ≡ some x
+      pub behind-way : (u ≡ to → ⊥) → way-back t r ≡ some x
       behind-way d =
           let passes : behind x ≡ true = rw (into, ne-eqb (road-at t x .source) (road-at t r .target) (λ e. d (m ∙ e ∙ sym n))) in
           first-found behind (λ i. i) a h passes
@@ -98,5 +84,26 @@ module _ (s : List ℕ) (c : Counts) (r : ℕ) where
           let turns : behind x ≡ false = rw (into, eq-eqb (road-at t x .source) (road-at t r .target) (sym m ∙ d ∙ n)) in
           first-step behind (λ i. i) a h turns
 
-  pub behind-end : {x : ℕ} → Behind x → c .e ≤ x → forced-predecessor t r ≡ none
+  pub behind-end : {x : ℕ} → Behind x → c .e ≤ x → way-back t r ≡ none
   behind-end a h = first-none behind (λ i. i) a h
+
+-- ---- the way is forced where the node is not valid
+
+module _ (t : Sheet) (r : ℕ) {v : ℕ} {b : Bool} (valid : b ≡ is-valid-node t v) where
+  module _ (p : v ≡ road-at t r .target) where
+    pub continuation-free : b ≡ true → forced-continuation t r ≡ none
+    unfolding forced-continuation
+    continuation-free e = rw (sym p, sym valid, e)
+
+    pub continuation-way : b ≡ false → forced-continuation t r ≡ way-on t r
+    unfolding forced-continuation way-on
+    continuation-way e = rw (sym p, sym valid, e)
+
+  module _ (p : v ≡ road-at t r .source) where
+    pub predecessor-free : b ≡ true → forced-predecessor t r ≡ none
+    unfolding forced-predecessor
+    predecessor-free e = rw (sym p, sym valid, e)
+
+    pub predecessor-way : b ≡ false → forced-predecessor t r ≡ way-back t r
+    unfolding forced-predecessor way-back
+    predecessor-way e = let free : is-valid-node t (road-at t r .source) ≡ false = ap (is-valid-node t) (sym p) ∙ sym valid ∙ e in rw free

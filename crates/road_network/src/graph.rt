@@ -8,7 +8,7 @@ ghost use Prim.Native.Nat.{_<_};
 ghost use Rattle.model.specs.Judge.{WellFormed};
 ghost use Rattle.model.specs.Sheet.{sheet-of};
 ghost use Rattle.model.specs.Ends.{grown, is-valid-node, forced-continuation, forced-predecessor};
-ghost use Rattle.road_network.specs.Graph.{roads-read, Forces};
+ghost use Rattle.road_network.specs.Graph.{roads-read, is-fork, Forces, way-on, way-back};
 ghost use Rattle.road_network.specs.Near.{is-second, fresh, meets, meets-road, Few, is-through, has-choice};
 
 // The neighbours of a node that are met so far, or that there is a choice.
@@ -174,24 +174,34 @@ pub fn test_node(s: &[u8], c: Counts, v: usize) -> Tested
     }
 }
 
-// Whether node v is more than a place on the way through: a junction, an end, a merge or a split.
+// Whether more than two roads leave node v. Such a node is valid: a way through has at most two.
+pub fn is_fork(s: &[u8], c: Counts, v: usize) -> bool
+    requires { ⌜ WellFormed (now s) c × (v < c .n) ⌝ }
+    ensures { λ r. ⌜ r ≡ is-fork (sheet-of (now (s .entry)) c) v ⌝ }
+{
+    let from = roads::start(s, c, v);
+    let end = roads::start(s, c, v + 1);
+    2 < end - from
+}
+
+// Whether node v is more than a place on the way through: a junction, an end, a merge or a split. A fork needs no walk over the roads.
 pub fn is_valid_node(s: &[u8], c: Counts, v: usize) -> bool
-    requires { ⌜ WellFormed (now s) c ⌝ }
+    requires { ⌜ WellFormed (now s) c × (v < c .n) ⌝ }
     ensures { λ r. ⌜ r ≡ is-valid-node (sheet-of (now (s .entry)) c) v ⌝ }
 {
+    if is_fork(s, c, v) {
+        return true;
+    }
     let tested = test_node(s, c, v);
     tested.valid
 }
 
-// The way on from the end of road r that is no U-turn, where the node gives no choice.
-pub fn forced_continuation(s: &[u8], c: Counts, r: usize) -> Forced
+// The way on from the end of road r that is no U-turn, whatever choice the node gives.
+pub fn way_on(s: &[u8], c: Counts, r: usize) -> Forced
     requires { ⌜ WellFormed (now s) c × (r < c .e) ⌝ }
-    ensures { λ f. ⌜ Forces (forced-continuation (sheet-of (now (s .entry)) c) r) (c .e) f ⌝ }
+    ensures { λ f. ⌜ Forces (way-on (sheet-of (now (s .entry)) c) r) (c .e) f ⌝ }
 {
     let v = roads::target(s, c, r);
-    if is_valid_node(s, c, v) {
-        return Forced::Free;
-    }
     let from = roads::source(s, c, r);
     let mut j = roads::start(s, c, v);
     let end = roads::start(s, c, v + 1);
@@ -205,15 +215,12 @@ pub fn forced_continuation(s: &[u8], c: Counts, r: usize) -> Forced
     Forced::Free
 }
 
-// The way into the start of road r that is no U-turn, where the node gives no choice.
-pub fn forced_predecessor(s: &[u8], c: Counts, r: usize) -> Forced
+// The way into the start of road r that is no U-turn, whatever choice the node gives.
+pub fn way_back(s: &[u8], c: Counts, r: usize) -> Forced
     requires { ⌜ WellFormed (now s) c × (r < c .e) ⌝ }
-    ensures { λ f. ⌜ Forces (forced-predecessor (sheet-of (now (s .entry)) c) r) (c .e) f ⌝ }
+    ensures { λ f. ⌜ Forces (way-back (sheet-of (now (s .entry)) c) r) (c .e) f ⌝ }
 {
     let v = roads::source(s, c, r);
-    if is_valid_node(s, c, v) {
-        return Forced::Free;
-    }
     let to = roads::target(s, c, r);
     let e = c.e;
     let mut x = 0;
@@ -226,4 +233,28 @@ pub fn forced_predecessor(s: &[u8], c: Counts, r: usize) -> Forced
         x += 1;
     }
     Forced::Free
+}
+
+// The way on from the end of road r that is no U-turn, where the node gives no choice.
+pub fn forced_continuation(s: &[u8], c: Counts, r: usize) -> Forced
+    requires { ⌜ WellFormed (now s) c × (r < c .e) ⌝ }
+    ensures { λ f. ⌜ Forces (forced-continuation (sheet-of (now (s .entry)) c) r) (c .e) f ⌝ }
+{
+    let v = roads::target(s, c, r);
+    if is_valid_node(s, c, v) {
+        return Forced::Free;
+    }
+    way_on(s, c, r)
+}
+
+// The way into the start of road r that is no U-turn, where the node gives no choice.
+pub fn forced_predecessor(s: &[u8], c: Counts, r: usize) -> Forced
+    requires { ⌜ WellFormed (now s) c × (r < c .e) ⌝ }
+    ensures { λ f. ⌜ Forces (forced-predecessor (sheet-of (now (s .entry)) c) r) (c .e) f ⌝ }
+{
+    let v = roads::source(s, c, r);
+    if is_valid_node(s, c, v) {
+        return Forced::Free;
+    }
+    way_back(s, c, r)
 }

@@ -1,79 +1,23 @@
-use Prim.Native.Nat.{_-_}
-use native.Mathlib.Omega.{arith}
 use borrow.Author.Needs.{needs}
-use Rattle.road_network.proofs.Ways.{Ahead, ahead-free, ahead-start, ahead-way, ahead-step, ahead-end}
+use Rattle.road_network.proofs.Ways.{continuation-free, continuation-way}
 use Rattle.road_network.proofs.graph.forced_continuation.Statement.{statement}
 use Rattle.road_network.proofs.graph.forced_continuation.Tie as tie
 
-abbrev Inv-loop : tie.InvT-loop
-Inv-loop s c r v from j₀ end j = Ahead s c r end j
-
-abbrev μ-loop : tie.MeasureT-loop
-μ-loop s c r v from j₀ end j = end - j
-
-target-requires : tie.Need-target-requires Inv-loop μ-loop
+target-requires : tie.Need-target-requires
 target-requires c κs = search needs
 
-is-valid-node-requires : tie.Need-is-valid-node-requires Inv-loop μ-loop
+is-valid-node-requires : tie.Need-is-valid-node-requires
 is-valid-node-requires c κs = search needs
 
-returns : tie.Need-returns Inv-loop μ-loop
-returns c = ahead-free _ _ _ (c .before .is-valid-node .ensures) (c .before .before .target .ensures .0) (c .if1 .taken)
+returns : tie.Need-returns
+returns c = continuation-free _ _ (c .before .is-valid-node .ensures) (c .before .before .target .ensures .0) (c .if1 .taken)
 
-source-requires : tie.Need-source-requires Inv-loop μ-loop
-source-requires c κs = search needs
+way-on-requires : tie.Need-way-on-requires
+way-on-requires c κs = search needs
 
-start-requires : tie.Need-start-requires Inv-loop μ-loop
-start-requires c κs = search needs
-
-add-start : tie.Need-add-start Inv-loop μ-loop
-add-start c = search needs
-
-start-requires-2 : tie.Need-start-requires-2 Inv-loop μ-loop
-start-requires-2 c κs = search needs
-
-loop-holds : tie.Need-loop-holds Inv-loop μ-loop
-loop-holds c = ahead-start _ _ _ (c .before .before .before .before .is-valid-node .ensures) (c .before .before .before .before .before .target .ensures .0) (c .before .before .before .if1 .left) (c .before .before .before .before .before .before .before .pre .0) (c .before .before .before .before .before .target .ensures .1) (c .before .start .ensures .0) (c .start2 .ensures .0)
-
-entry-requires : tie.Need-entry-requires Inv-loop μ-loop
-entry-requires c κs = search needs
-
-target-requires-2 : tie.Need-target-requires-2 Inv-loop μ-loop
-target-requires-2 c κs = search needs
-
-returns-2 : tie.Need-returns-2 Inv-loop μ-loop
-returns-2 c = (ahead-way _ _ _ (c .before .before .before .before .loop .inv) (c .before .before .before .loop-test .taken) (c .before .before .entry .ensures .0) (c .before .target2 .ensures .0) (c .before .before .before .before .before .before .before .source .ensures .0) (c .if2 .taken), c .before .before .entry .ensures .1)
-
-add-j : tie.Need-add-j Inv-loop μ-loop
-add-j c = search needs
-
-loop-less : tie.Need-loop-less Inv-loop μ-loop
-loop-less c = omega arith
-
-loop-again : tie.Need-loop-again Inv-loop μ-loop
-loop-again c = ahead-step _ _ _ (c .before .before .before .before .loop .inv) (c .before .before .before .loop-test .taken) (c .before .before .entry .ensures .0) (c .before .target2 .ensures .0) (c .before .before .before .before .before .before .before .source .ensures .0) (c .if2 .left)
-
-returns-3 : tie.Need-returns-3 Inv-loop μ-loop
-returns-3 c = ahead-end _ _ _ (c .before .loop .inv) (c .loop-test .left)
+returns-2 : tie.Need-returns-2
+returns-2 c = rw (continuation-way _ _ (c .before .before .is-valid-node .ensures) (c .before .before .before .target .ensures .0) (c .before .if1 .left)) (c .way-on .ensures)
 
 pub forced-continuation-spec : {M : Type 1} → statement M
 forced-continuation-spec =
-    tie.close
-    (tie.spec
-    Inv-loop
-    μ-loop
-    target-requires
-    is-valid-node-requires
-    returns
-    source-requires
-    start-requires
-    add-start
-    start-requires-2
-    loop-holds
-    entry-requires
-    target-requires-2
-    returns-2
-    add-j
-    loop-less
-    loop-again
-    returns-3)
+    tie.close (tie.spec target-requires is-valid-node-requires returns way-on-requires returns-2)

@@ -1,75 +1,23 @@
-use Prim.Native.Nat.{_-_}
-use mathlib.Core.Logic.{⊎-elim}
-use native.Mathlib.Omega.{arith}
 use borrow.Author.Needs.{needs}
-use Rattle.road_network.proofs.Ways.{Behind, behind-free, behind-start, behind-other, behind-way, behind-turn, behind-end}
+use Rattle.road_network.proofs.Ways.{predecessor-free, predecessor-way}
 use Rattle.road_network.proofs.graph.forced_predecessor.Statement.{statement}
 use Rattle.road_network.proofs.graph.forced_predecessor.Tie as tie
 
-abbrev Inv-loop : tie.InvT-loop
-Inv-loop s c r v to e x₀ x = Behind s c r x
-
-abbrev μ-loop : tie.MeasureT-loop
-μ-loop s c r v to e x₀ x = e - x
-
-source-requires : tie.Need-source-requires Inv-loop μ-loop
+source-requires : tie.Need-source-requires
 source-requires c κs = search needs
 
-is-valid-node-requires : tie.Need-is-valid-node-requires Inv-loop μ-loop
+is-valid-node-requires : tie.Need-is-valid-node-requires
 is-valid-node-requires c κs = search needs
 
-returns : tie.Need-returns Inv-loop μ-loop
-returns c = behind-free _ _ _ (c .before .is-valid-node .ensures) (c .before .before .source .ensures .0) (c .if1 .taken)
+returns : tie.Need-returns
+returns c = predecessor-free _ _ (c .before .is-valid-node .ensures) (c .before .before .source .ensures .0) (c .if1 .taken)
 
-target-requires : tie.Need-target-requires Inv-loop μ-loop
-target-requires c κs = search needs
+way-back-requires : tie.Need-way-back-requires
+way-back-requires c κs = search needs
 
-loop-holds : tie.Need-loop-holds Inv-loop μ-loop
-loop-holds c = behind-start _ _ _ (c .before .before .is-valid-node .ensures) (c .before .before .before .source .ensures .0) (c .before .if1 .left)
-
-target-requires-2 : tie.Need-target-requires-2 Inv-loop μ-loop
-target-requires-2 c κs = search needs
-
-source-requires-2 : tie.Need-source-requires-2 Inv-loop μ-loop
-source-requires-2 c κs = search needs
-
-returns-2 : tie.Need-returns-2 Inv-loop μ-loop
-returns-2 c = (behind-way _ _ _ (c .before .before .before .before .before .loop .inv) (c .before .before .before .before .loop-test .taken) (c .before .before .before .target2 .ensures .0) (c .before .before .before .before .before .before .before .before .before .source .ensures .0) (c .before .before .if2 .taken) (c .before .source2 .ensures .0) (c .before .before .before .before .before .before .target .ensures .0) (c .if3 .taken), c .before .before .before .before .loop-test .taken)
-
-add-x : tie.Need-add-x Inv-loop μ-loop
-add-x c = search needs
-
-loop-less : tie.Need-loop-less Inv-loop μ-loop
-loop-less c = omega arith
-
-loop-again : tie.Need-loop-again Inv-loop μ-loop
-loop-again c =
-    let seen = c .before .before .before .loop .inv in
-    let below = c .before .before .loop-test .taken in
-    let into = c .before .target2 .ensures .0 in
-    let node = c .before .before .before .before .before .before .before .source .ensures .0 in
-    ⊎-elim (λ w. behind-turn _ _ _ seen below into node (w .0 .taken) (w .1 .ensures .0) (c .before .before .before .before .target .ensures .0) (w .2 .left))
-    (λ w. behind-other _ _ _ seen below into node (w .left))
-    (c .if2 .came)
-
-returns-3 : tie.Need-returns-3 Inv-loop μ-loop
-returns-3 c = behind-end _ _ _ (c .before .loop .inv) (c .loop-test .left)
+returns-2 : tie.Need-returns-2
+returns-2 c = rw (predecessor-way _ _ (c .before .before .is-valid-node .ensures) (c .before .before .before .source .ensures .0) (c .before .if1 .left)) (c .way-back .ensures)
 
 pub forced-predecessor-spec : {M : Type 1} → statement M
 forced-predecessor-spec =
-    tie.close
-    (tie.spec
-    Inv-loop
-    μ-loop
-    source-requires
-    is-valid-node-requires
-    returns
-    target-requires
-    loop-holds
-    target-requires-2
-    source-requires-2
-    returns-2
-    add-x
-    loop-less
-    loop-again
-    returns-3)
+    tie.close (tie.spec source-requires is-valid-node-requires returns way-back-requires returns-2)
