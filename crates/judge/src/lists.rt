@@ -2,9 +2,11 @@
 use model::Counts;
 use sheet::numbers;
 ghost use mathlib.Core.Path.{_≡_};
-ghost use Prim.Native.Nat.{_<_};
+ghost use Prim.Native.Nat.{_≤_, _<_};
+ghost use lib.ListN.{length};
 ghost use Rattle.model.specs.Table.{every};
 ghost use Rattle.model.specs.Judge.{Sound, start-rises, in-part, entry-good, lists-good};
+ghost use Rattle.judge.specs.Marks.{Clear};
 
 // The start positions never fall.
 fn starts_rise(s: &[u8], c: Counts) -> bool
@@ -36,11 +38,10 @@ fn in_part(s: &[u8], c: Counts, i: usize, j: usize) -> bool
 }
 
 // Each road stands in its source's part, once: a mark for each road that was met.
-fn entries_good(s: &[u8], c: Counts) -> bool
-    requires { ⌜ Sound (now s) c ⌝ }
+fn entries_once(s: &[u8], c: Counts, marks: &mut [u8]) -> bool
+    requires { ⌜ Sound (now s) c × (c .e ≤ length (now marks)) × Clear (c .e) (now marks) ⌝ }
     ensures { λ v. ⌜ v ≡ every (entry-good (now (s .entry)) c) (c .e) 0 ⌝ }
 {
-    let mut marks = [0u8; model::MOST_ROADS];
     let mut j = 0;
     let mut left = c.e;
     while 0 < left {
@@ -57,6 +58,19 @@ fn entries_good(s: &[u8], c: Counts) -> bool
         left -= 1;
     }
     true
+}
+
+// The same, with marks for few roads or for all that a sheet can have: to clear those takes longer than to judge a small sheet.
+fn entries_good(s: &[u8], c: Counts) -> bool
+    requires { ⌜ Sound (now s) c ⌝ }
+    ensures { λ v. ⌜ v ≡ every (entry-good (now (s .entry)) c) (c .e) 0 ⌝ }
+{
+    if c.e <= 256 {
+        let mut few = [0u8; 256];
+        return entries_once(s, c, &mut few);
+    }
+    let mut marks = [0u8; model::MOST_ROADS];
+    entries_once(s, c, &mut marks)
 }
 
 // Start positions: first 0, last E, never falling; then each road in its source's part once.
