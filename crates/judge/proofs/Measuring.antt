@@ -1,4 +1,4 @@
--- A run of f64 judged all at once: the top bits of all of them joined by `or`, and what a good run says of a record's fields and of a run of distances.
+-- A run of numbers judged all at once: their top bits joined by `or`, and what a good run says of f64 and of distances, of start positions and of road numbers.
 use Prim.Native.Nat.{ℕ, zero, suc, _+_, _-_, _*_, _%_, _^_, _≤_, _<_}
 use mathlib.Core.Path.{_≡_, refl, sym, ap, _∙_}
 use mathlib.Core.Bool.{Bool, true, false, _&&_}

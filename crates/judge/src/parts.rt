@@ -10,7 +10,7 @@ ghost use lib.ListN.{length};
 ghost use Rattle.model.specs.Layout.{goal-width};
 ghost use Rattle.model.specs.declared.Verdict.the-variants.{Good};
 ghost use Rattle.model.specs.Table.{check, records, _then_};
-ghost use Rattle.model.specs.Judge.{settings-table, point-table, road-table, row-table, distance-table, goal-table, number-table};
+ghost use Rattle.model.specs.Judge.{settings-table, point-table, road-table, number-table, row-table, distance-table, goal-table};
 ghost use Rattle.judge.specs.Parts.{table-of, width-of};
 
 // The greatest bearing, 360, by its bits.

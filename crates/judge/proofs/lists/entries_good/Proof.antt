@@ -1,6 +1,6 @@
-use Rattle.judge.proofs.Marking.{all-clear}
-use Rattle.model.specs.Layout.{most-roads}
 use borrow.Author.Needs.{needs}
+use Rattle.model.specs.Layout.{most-roads}
+use Rattle.judge.proofs.Marking.{all-clear}
 use Rattle.judge.proofs.lists.entries_good.Statement.{statement}
 use Rattle.judge.proofs.lists.entries_good.Tie as tie
 
@@ -17,7 +17,8 @@ slice-aggregate-entries-once-2 : tie.Need-slice-aggregate-entries-once-2
 slice-aggregate-entries-once-2 c = search needs
 
 entries-once-requires-2 : tie.Need-entries-once-requires-2
-entries-once-requires-2 c κs = let p = c .before .before .before .before in
+entries-once-requires-2 c κs =
+    let p = c .before .before .before .before in
     (p .pre, p .pre .small .e, all-clear most-roads (p .args .c .e) (p .pre .small .e))
 
 returns-2 : tie.Need-returns-2

@@ -1,14 +1,14 @@
-use Rattle.judge.proofs.Marking.{marks-none, marks-next, not-met, was-met, entry-out, entry-met, entry-fine}
-use Rattle.judge.specs.Marks.{Marks}
-use Rattle.model.proofs.Turns.{every-good, every-bad, every-none}
-use Rattle.model.specs.Judge.{entry-of, entry-good}
-use Rattle.model.specs.Table.{every}
+use Prim.Native.Nat.{_+_, _≤_, _<_}
+use native.Mathlib.Omega.{arith}
+use mathlib.Core.Path.{_≡_, refl, sym, _∙_}
+use lib.ListN.{length, length-set}
 use borrow.Author.Tests.{not-true, not-false}
 use borrow.Author.Needs.{needs}
-use lib.ListN.{length, length-set}
-use mathlib.Core.Path.{_≡_, refl, sym, _∙_}
-use native.Mathlib.Omega.{arith}
-use Prim.Native.Nat.{_+_, _≤_, _<_}
+use Rattle.model.specs.Judge.{entry-of, entry-good}
+use Rattle.model.specs.Table.{every}
+use Rattle.model.proofs.Turns.{every-good, every-bad, every-none}
+use Rattle.judge.specs.Marks.{Marks}
+use Rattle.judge.proofs.Marking.{marks-none, marks-next, not-met, was-met, entry-out, entry-met, entry-fine}
 use Rattle.judge.proofs.lists.entries_once.Statement.{statement}
 use Rattle.judge.proofs.lists.entries_once.Tie as tie
 
@@ -17,11 +17,11 @@ Inv-loop s c marks₀ j₀ left₀ marks j left =
     (j + left ≡ c .e) × (length marks ≡ length marks₀) × Marks (entry-of s c) (c .e) marks j × (every (entry-good s c) left j ≡ every (entry-good s c) (c .e) 0)
 
 abbrev μ-loop : tie.MeasureT-loop
-μ-loop s c marks₀ j₀ left₀ marks j left =
-    left
+μ-loop s c marks₀ j₀ left₀ marks j left = left
 
 loop-holds : tie.Need-loop-holds Inv-loop μ-loop
-loop-holds c = let p = c .before .before in
+loop-holds c =
+    let p = c .before .before in
     (omega arith, refl, marks-none (entry-of (p .args .s .now) (p .args .c)) (p .args .c .e) (p .args .marks .now) (p .pre .2), refl)
 
 entry-requires : tie.Need-entry-requires Inv-loop μ-loop
@@ -37,7 +37,8 @@ same-length : tie.Need-same-length Inv-loop μ-loop
 same-length c = search needs
 
 returns : tie.Need-returns Inv-loop μ-loop
-returns c = let l = c .before .before .before .before .before .loop in
+returns c =
+    let l = c .before .before .before .before .before .loop in
     let a = c .before .before .before .before .before .before .before .before .args in
     let r = c .before .before .before .entry in
     let i = c .before .before .source in
@@ -52,7 +53,8 @@ same-length-2 : tie.Need-same-length-2 Inv-loop μ-loop
 same-length-2 c = search needs
 
 returns-2 : tie.Need-returns-2 Inv-loop μ-loop
-returns-2 c = let l = c .before .before .before .before .before .before .before .loop in
+returns-2 c =
+    let l = c .before .before .before .before .before .before .before .loop in
     let a = c .before .before .before .before .before .before .before .before .before .before .args in
     let r = c .before .before .before .before .before .entry in
     let i = c .before .before .before .before .source in
@@ -74,7 +76,8 @@ loop-less : tie.Need-loop-less Inv-loop μ-loop
 loop-less c = omega arith
 
 loop-again : tie.Need-loop-again Inv-loop μ-loop
-loop-again c = let l = c .before .before .before .before .before .before .before .loop in
+loop-again c =
+    let l = c .before .before .before .before .before .before .before .loop in
     let a = c .before .before .before .before .before .before .before .before .before .before .args in
     let r = c .before .before .before .before .before .entry in
     let i = c .before .before .before .before .source in
@@ -92,7 +95,8 @@ same-length-3 : tie.Need-same-length-3 Inv-loop μ-loop
 same-length-3 c = search needs
 
 returns-3 : tie.Need-returns-3 Inv-loop μ-loop
-returns-3 c = let l = c .before .loop in
+returns-3 c =
+    let l = c .before .loop in
     let a = c .before .before .before .before .args in
     every-none (entry-good (a .s .now) (a .c)) (l .left) (l .j) (c .loop-test .left) ∙ l .inv .3
 

@@ -1,12 +1,12 @@
-use Rattle.judge.proofs.Measuring.{top, rises, one-turn, all-end}
+use Prim.Native.Nat.{ℕ, _+_, _^_, _<_}
+use native.Mathlib.Omega.{arith}
+use mathlib.Core.Bool.{_&&_}
+use mathlib.Core.Path.{_≡_, refl, ap, _∙_}
+use lib.Dec.{ltb}
 use Rattle.model.specs.Judge.{start-of, start-rises}
 use Rattle.model.specs.Table.{every}
 use Rattle.model.specs.Bytes.{u32-at}
-use lib.Dec.{ltb}
-use mathlib.Core.Bool.{_&&_}
-use mathlib.Core.Path.{_≡_, refl, ap, _∙_}
-use native.Mathlib.Omega.{arith}
-use Prim.Native.Nat.{ℕ, _+_, _^_, _<_}
+use Rattle.judge.proofs.Measuring.{top, rises, one-turn, all-end}
 use Rattle.judge.proofs.lists.starts_rise.Statement.{statement}
 use Rattle.judge.proofs.lists.starts_rise.Tie as tie
 
@@ -15,8 +15,7 @@ Inv-loop s c all₀ i₀ left₀ all i left =
     (i + left ≡ c .n) × ((ltb all top && every (start-rises s c) left i) ≡ every (start-rises s c) (c .n) 0)
 
 abbrev μ-loop : tie.MeasureT-loop
-μ-loop s c all₀ i₀ left₀ all i left =
-    left
+μ-loop s c all₀ i₀ left₀ all i left = left
 
 loop-holds : tie.Need-loop-holds Inv-loop μ-loop
 loop-holds c = (omega arith, refl)
@@ -53,7 +52,8 @@ loop-less c = omega arith
 
 loop-again : tie.Need-loop-again Inv-loop μ-loop
 unfolding start-of
-loop-again c = let l = c .before .before .before .before .before .loop in
+loop-again c =
+    let l = c .before .before .before .before .before .loop in
     let p = c .before .before .before .before .before .before .before in
     let a = p .args in
     let this = c .before .before .count-at .ensures in
@@ -66,7 +66,8 @@ loop-again c = let l = c .before .before .before .before .before .loop in
     (omega arith, one-turn (start-rises (a .s .now) (a .c)) (l .left) (l .i) (l .all) w (c .before .before .before .before .loop-test .taken) good ∙ l .inv .1)
 
 returns : tie.Need-returns Inv-loop μ-loop
-returns c = let l = c .before .loop in
+returns c =
+    let l = c .before .loop in
     let a = c .before .before .before .args in
     all-end (start-rises (a .s .now) (a .c)) (l .left) (l .i) (l .all) (c .loop-test .left) ∙ l .inv .1
 

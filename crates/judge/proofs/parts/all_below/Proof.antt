@@ -1,13 +1,13 @@
-use Rattle.judge.proofs.Whole.{no-claim, number-whole}
-use Rattle.judge.proofs.Measuring.{half, all-below}
-use Rattle.model.proofs.Turns.{records-good, records-none}
+use Prim.Native.Nat.{ℕ, _+_, _*_, _^_, _≤_, _<_}
+use native.Mathlib.Omega.{arith}
+use mathlib.Core.Path.{_≡_, refl, sym, _∙_}
+use lib.ListN.{length}
+use borrow.Author.Tests.{ltb-true}
 use Rattle.model.specs.Judge.{number-table}
 use Rattle.model.specs.Table.{records}
-use borrow.Author.Tests.{ltb-true}
-use lib.ListN.{length}
-use mathlib.Core.Path.{_≡_, refl, sym, _∙_}
-use native.Mathlib.Omega.{arith}
-use Prim.Native.Nat.{ℕ, _+_, _*_, _^_, _≤_, _<_}
+use Rattle.model.proofs.Turns.{records-good, records-none}
+use Rattle.judge.proofs.Whole.{no-claim, number-whole}
+use Rattle.judge.proofs.Measuring.{half, all-below}
 use Rattle.judge.proofs.parts.all_below.Statement.{statement}
 use Rattle.judge.proofs.parts.all_below.Tie as tie
 
@@ -16,8 +16,7 @@ Inv-loop s base k n room all₀ at₀ left₀ all at left =
     (room + n ≡ half) × (at + left * 4 ≤ length s) × (all < half → records s 4 (number-table n) left at ≡ records s 4 (number-table n) k base)
 
 abbrev μ-loop : tie.MeasureT-loop
-μ-loop s base k n room all₀ at₀ left₀ all at left =
-    left
+μ-loop s base k n room all₀ at₀ left₀ all at left = left
 
 returns : tie.Need-returns Inv-loop μ-loop
 returns c = no-claim
@@ -47,7 +46,8 @@ loop-less : tie.Need-loop-less Inv-loop μ-loop
 loop-less c = omega arith
 
 loop-again : tie.Need-loop-again Inv-loop μ-loop
-loop-again c = let l = c .before .before .before .loop in
+loop-again c =
+    let l = c .before .before .before .loop in
     let a = c .before .before .before .before .before .before .args in
     let v : ℕ = c .before .u32-at .result in
     let w : ℕ = c .wrapping-add-u32 .result in
@@ -61,7 +61,8 @@ loop-again c = let l = c .before .before .before .loop in
     )
 
 returns-2 : tie.Need-returns-2 Inv-loop μ-loop
-returns-2 c = let l = c .before .loop in
+returns-2 c =
+    let l = c .before .loop in
     let a = c .before .before .before .before .args in
     λ e. records-none _ _ (number-table (a .n)) (l .left) (l .at) (c .loop-test .left) ∙ l .inv .2 (ltb-true _ _ e)
 

@@ -1,5 +1,5 @@
-use Rattle.model.specs.Table.{_then_}
 use borrow.Author.Needs.{needs}
+use Rattle.model.specs.Table.{_then_}
 use Rattle.judge.proofs.parts.numbers.Statement.{statement}
 use Rattle.judge.proofs.parts.numbers.Tie as tie
 

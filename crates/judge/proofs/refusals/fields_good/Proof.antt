@@ -1,7 +1,7 @@
-use Rattle.model.specs.Judge.{fields-good}
-use Rattle.model.specs.Table.{first-bad-after, first-bad, _then_}
 use native.Mathlib.Omega.{arith}
 use borrow.Author.Needs.{needs}
+use Rattle.model.specs.Judge.{fields-good}
+use Rattle.model.specs.Table.{first-bad-after, first-bad, _then_}
 use Rattle.judge.proofs.refusals.fields_good.Statement.{statement}
 use Rattle.judge.proofs.refusals.fields_good.Tie as tie
 
@@ -48,27 +48,29 @@ distances-requires : tie.Need-distances-requires
 distances-requires c κs = omega (arith, c .before .before .before .before .before .before .before .before .before .before .before .before .before .before .pre, c .before .before .before .before .before .before .before .before .before .distances-at .ensures)
 
 after-requires-6 : tie.Need-after-requires-6
-after-requires-6 c κs = let width = c .before .before .before .before .before .before .before .before .goal-width .ensures in
+after-requires-6 c κs =
+    let width = c .before .before .before .before .before .before .before .before .goal-width .ensures in
     (width, rw (width, c .before .before .before .before .before .before .before .before .before .goals-at .ensures) (omega (arith, c .before .before .before .before .before .before .before .before .before .before .before .before .before .before .before .pre)))
 
 returns : tie.Need-returns
 unfolding fields-good first-bad first-bad-after _then_
-returns c = rw (
-  c .after6 .ensures,
-  c .before .distances .ensures,
-  c .before .before .before .after5 .ensures,
-  c .before .before .before .before .numbers .ensures,
-  c .before .before .before .before .before .after4 .ensures,
-  c .before .before .before .before .before .before .after3 .ensures,
-  c .before .before .before .before .before .before .before .after2 .ensures,
-  c .before .before .before .before .before .before .before .before .after .ensures,
-  c .before .before .before .before .before .before .before .before .before .goal-width .ensures,
-  c .before .before .before .before .before .before .before .before .before .before .goals-at .ensures,
-  c .before .before .before .before .before .before .before .before .before .before .before .distances-at .ensures,
-  c .before .before .before .before .before .before .before .before .before .before .before .before .rows-at .ensures,
-  c .before .before .before .before .before .before .before .before .before .before .before .before .before .numbers-at .ensures,
-  c .before .before .before .before .before .before .before .before .before .before .before .before .before .before .roads-at .ensures,
-)
+returns c =
+    rw (
+      c .after6 .ensures,
+      c .before .distances .ensures,
+      c .before .before .before .after5 .ensures,
+      c .before .before .before .before .numbers .ensures,
+      c .before .before .before .before .before .after4 .ensures,
+      c .before .before .before .before .before .before .after3 .ensures,
+      c .before .before .before .before .before .before .before .after2 .ensures,
+      c .before .before .before .before .before .before .before .before .after .ensures,
+      c .before .before .before .before .before .before .before .before .before .goal-width .ensures,
+      c .before .before .before .before .before .before .before .before .before .before .goals-at .ensures,
+      c .before .before .before .before .before .before .before .before .before .before .before .distances-at .ensures,
+      c .before .before .before .before .before .before .before .before .before .before .before .before .rows-at .ensures,
+      c .before .before .before .before .before .before .before .before .before .before .before .before .before .numbers-at .ensures,
+      c .before .before .before .before .before .before .before .before .before .before .before .before .before .before .roads-at .ensures,
+    )
 
 pub fields-good-spec : {M : Type 1} → statement M
 fields-good-spec =

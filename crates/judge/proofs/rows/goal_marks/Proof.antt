@@ -1,11 +1,11 @@
-use Rattle.judge.proofs.Marking.{marks-none, marks-next}
-use Rattle.judge.specs.Marks.{Marks}
-use Rattle.model.specs.Judge.{goal-node}
-use borrow.Author.Needs.{needs}
-use lib.ListN.{length, length-set}
-use mathlib.Core.Path.{_≡_, refl, sym}
-use native.Mathlib.Omega.{arith}
 use Prim.Native.Nat.{_-_, _≤_, _<_}
+use native.Mathlib.Omega.{arith}
+use mathlib.Core.Path.{_≡_, refl, sym}
+use lib.ListN.{length, length-set}
+use borrow.Author.Needs.{needs}
+use Rattle.model.specs.Judge.{goal-node}
+use Rattle.judge.specs.Marks.{Marks}
+use Rattle.judge.proofs.Marking.{marks-none, marks-next}
 use Rattle.judge.proofs.rows.goal_marks.Statement.{statement}
 use Rattle.judge.proofs.rows.goal_marks.Tie as tie
 
@@ -14,11 +14,11 @@ Inv-loop s c marks₀ g k₀ marks k =
     (k ≤ c .g) × (length marks ≡ length marks₀) × Marks (goal-node s c) (c .n) marks k
 
 abbrev μ-loop : tie.MeasureT-loop
-μ-loop s c marks₀ g k₀ marks k =
-    c .g - k
+μ-loop s c marks₀ g k₀ marks k = c .g - k
 
 loop-holds : tie.Need-loop-holds Inv-loop μ-loop
-loop-holds c = let p = c .before .before in
+loop-holds c =
+    let p = c .before .before in
     (omega arith, refl, marks-none (goal-node (p .args .s .now) (p .args .c)) (p .args .c .n) (p .args .marks .now) (p .pre .2))
 
 goal-node-requires : tie.Need-goal-node-requires Inv-loop μ-loop
@@ -34,7 +34,8 @@ loop-less : tie.Need-loop-less Inv-loop μ-loop
 loop-less c = omega arith
 
 loop-again : tie.Need-loop-again Inv-loop μ-loop
-loop-again c = let l = c .before .before .loop in
+loop-again c =
+    let l = c .before .before .loop in
     let a = c .before .before .before .before .before .args in
     let long : a .c .n ≤ length (l .marks) = omega (arith, l .inv .1, c .before .before .before .before .before .pre .1) in (
       omega arith,
@@ -46,7 +47,8 @@ same-length : tie.Need-same-length Inv-loop μ-loop
 same-length c = search needs
 
 returns : tie.Need-returns Inv-loop μ-loop
-returns c = let l = c .before .loop in
+returns c =
+    let l = c .before .loop in
     let end : l .k ≡ c .before .before .before .before .args .c .g = omega arith in
     rw end at (l .inv .2)
 

@@ -1,6 +1,6 @@
-use Rattle.judge.proofs.Marking.{all-clear}
-use Rattle.model.specs.Layout.{most-nodes}
 use borrow.Author.Needs.{needs}
+use Rattle.model.specs.Layout.{most-nodes}
+use Rattle.judge.proofs.Marking.{all-clear}
 use Rattle.judge.proofs.rows.goals_cover.Statement.{statement}
 use Rattle.judge.proofs.rows.goals_cover.Tie as tie
 
@@ -23,7 +23,8 @@ slice-aggregate-goal-marks-2 : tie.Need-slice-aggregate-goal-marks-2
 slice-aggregate-goal-marks-2 c = search needs
 
 goal-marks-requires-2 : tie.Need-goal-marks-requires-2
-goal-marks-requires-2 c κs = let p = c .before .before .before .before .pre .0 .small .n in
+goal-marks-requires-2 c κs =
+    let p = c .before .before .before .before .pre .0 .small .n in
     (c .before .before .before .before .pre .0, p, all-clear most-nodes (c .before .before .before .before .args .c .n) p)
 
 slice-aggregate-sources-marked-2 : tie.Need-slice-aggregate-sources-marked-2

@@ -2,11 +2,11 @@ use Prim.Native.Nat.{_-_, _≤_}
 use native.Mathlib.Omega.{arith}
 use mathlib.Core.Path.{ap}
 use borrow.Author.Tests.{eq-eqb, ne-eqb, not-true, not-false}
+use borrow.Author.Needs.{needs}
 use Rattle.model.specs.Table.{all-after, all-of}
 use Rattle.model.specs.Judge.{rows-good, rows-before, row-count, has-goal}
 use Rattle.model.proofs.Turns.{every-none}
 use Rattle.model.proofs.RowSums.{before-none}
-use borrow.Author.Needs.{needs}
 use Rattle.judge.proofs.rows.rows_good.Statement.{statement}
 use Rattle.judge.proofs.rows.rows_good.Tie as tie
 
