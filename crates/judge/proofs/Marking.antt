@@ -1,5 +1,5 @@
 -- Marks for the numbers that were met: none at first, one more with each turn; and the test of a place of the lists by what the code has read there.
-use Prim.Native.Nat.{ℕ, _+_, _<_}
+use Prim.Native.Nat.{ℕ, _+_, _≤_, _<_}
 use native.Mathlib.Omega.{arith}
 use mathlib.Core.Path.{_≡_, refl, sym, _∙_}
 use mathlib.Core.Bool.{Bool, true, false}
@@ -12,7 +12,7 @@ use Rattle.model.specs.declared.Counts.{Counts}
 use Rattle.model.specs.Table.{met}
 use Rattle.model.specs.Judge.{source-of, entry-of, in-part, entry-good}
 use Rattle.model.proofs.Turns.{met-none, met-next}
-use Rattle.judge.specs.Marks.{mark, Marks}
+use Rattle.judge.specs.Marks.{mark, Clear, Marks}
 
 clear : (b : Bool) → mark b ≡ 0 → b ≡ false
 clear true e = absurd (omega arith)
@@ -22,11 +22,15 @@ set-mark : (b : Bool) → (mark b ≡ 0 → ⊥) → b ≡ true
 set-mark true h = refl
 set-mark false h = absurd (h refl)
 
-module _ (f : ℕ → ℕ) (size : ℕ) where
-  pub marks-none : Marks f size (replicate size 0) 0
-  marks-none v h = rw (met-none f v) (getD-replicate size v 0 0 h)
+-- an array that was just made
+pub all-clear : (many size : ℕ) → size ≤ many → Clear size (replicate many 0)
+all-clear many size l v h = getD-replicate many v 0 0 (omega arith)
 
-  module _ (marks : List ℕ) (r k : ℕ) (l : length marks ≡ size) (h : r < size) (e : f k ≡ r) (m : Marks f size marks k) where
+module _ (f : ℕ → ℕ) (size : ℕ) where
+  pub marks-none : (marks : List ℕ) → Clear size marks → Marks f size marks 0
+  marks-none marks e v h = rw (met-none f v) (e v h)
+
+  module _ (marks : List ℕ) (r k : ℕ) (l : size ≤ length marks) (h : r < size) (e : f k ≡ r) (m : Marks f size marks k) where
     next-at : (v : ℕ) → v < size → (b : Bool) → eqb r v ≡ b → getD (set marks r 1) v 0 ≡ mark (met f v (k + 1))
     next-at v hv true p =
         let same : r ≡ v = eqb-true r v p in

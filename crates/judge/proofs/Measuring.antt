@@ -1,4 +1,4 @@
--- A run of f64 judged all at once: the top bits of all of them joined by `or`, and what a good run says of a record's fields and of a run of distances.
+-- A run of numbers judged all at once: their top bits joined by `or`, and what a good run says of f64 and of distances, of start positions and of road numbers.
 use Prim.Native.Nat.{ℕ, zero, suc, _+_, _-_, _*_, _%_, _^_, _≤_, _<_}
 use mathlib.Core.Path.{_≡_, refl, sym, ap, _∙_}
 use mathlib.Core.Bool.{Bool, true, false, _&&_}
@@ -6,8 +6,8 @@ use mathlib.Core.List.{List}
 use native.Mathlib.Nat.{le-trans, zero-lt-suc}
 use native.Mathlib.Omega.{arith}
 use lib.Bits.{bitOr, or-add-and, and-le-l, and-le-r, or-lt}
-use lib.Dec.{ltb}
-use borrow.Author.Tests.{lt-ltb, le-ltb, ltb-true, ltb-false, le-leb, lt-leb}
+use lib.Dec.{ltb, leb}
+use borrow.Author.Tests.{lt-ltb, le-ltb, ltb-true, ltb-false, le-leb, lt-leb, leb-true, leb-false}
 use Rattle.model.specs.declared.Verdict.{Verdict}
 use Rattle.model.specs.declared.Verdict.the-variants.{Good}
 use Rattle.model.specs.Bytes.{u64-at}
@@ -20,6 +20,9 @@ use Rattle.model.proofs.Listed.{every-at}
 
 abbrev pub top : ℕ
 top = 0x8000_0000_0000_0000
+
+abbrev pub half : ℕ
+half = 0x8000_0000
 
 or-first : (a b : ℕ) → a ≤ bitOr a b
 or-first a b = omega (arith, or-add-and a b, and-le-r a b)
@@ -55,12 +58,38 @@ all-turn t k j all v w h e = rw (or-clear (bitOr all v) w, or-clear all v) (go (
     go true true false e = every-bad t k j h (sym e)
     go true false y e = every-bad t k j h (sym e)
 
+-- the same with one number for a field
+pub one-turn : (t : ℕ → Bool) (k j all w : ℕ) → 0 < k → ltb w top ≡ t j → (ltb (bitOr all w) top && every t (k - 1) (j + 1)) ≡ (ltb all top && every t k j)
+one-turn t k j all w h e = rw (or-clear all w) (go (ltb all top) (ltb w top) e)
+  where
+    go : (a x : Bool) → x ≡ t j → ((a && x) && every t (k - 1) (j + 1)) ≡ (a && every t k j)
+    go false x e = refl
+    go true true e = every-good t k j h (sym e)
+    go true false e = every-bad t k j h (sym e)
+
 pub all-end : (t : ℕ → Bool) (k j all : ℕ) → k ≤ 0 → ltb all top ≡ (ltb all top && every t k j)
 all-end t k j all h = rw (← every-none t k j h) (go (ltb all top))
   where
     go : (a : Bool) → a ≡ (a && true)
     go true = refl
     go false = refl
+
+-- a start and the next one, with their difference
+pub rises : (a b w : ℕ) → a < 2 ^ 32 → b < 2 ^ 32 → w < 2 ^ 64 → (w + a) % 2 ^ 64 ≡ b → ltb w top ≡ leb a b
+rises a b w ha hb hw e = go (leb a b) refl
+  where
+    go : (x : Bool) → leb a b ≡ x → ltb w top ≡ x
+    go true p = let l = leb-true a b p in lt-ltb w top (omega arith)
+    go false p = let l = leb-false a b p in le-ltb w top (omega arith)
+
+-- a u32, and the sum that has its top bit set from n on
+pub all-below : (n room all v w : ℕ) → room + n ≡ half → v < 2 ^ 32 → w ≡ (v + room) % 2 ^ 32 → bitOr (bitOr all v) w < half → (all < half) × (v < n)
+all-below n room all v w hn hv e h =
+    let one = or-first (bitOr all v) w in
+    let two = or-last (bitOr all v) w in
+    let three = or-first all v in
+    let four = or-last all v in
+    (omega arith, omega arith)
 
 -- ---- a record's measures
 

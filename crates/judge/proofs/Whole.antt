@@ -9,7 +9,7 @@ use borrow.Author.Tests.{le-leb, lt-ltb, eq-eqb}
 use Rattle.model.specs.declared.Verdict.the-variants.{Good}
 use Rattle.model.specs.Bytes.{u8-at, u16-at, u32-at, u64-at}
 use Rattle.model.specs.Table.{need, check, check-then, alike, most-f64, most-bearing}
-use Rattle.model.specs.Judge.{road-table, row-table}
+use Rattle.model.specs.Judge.{road-table, number-table, row-table}
 
 -- of a record that is not good as a whole nothing is claimed
 pub no-claim : {A : Type 0} → false ≡ true → A
@@ -46,6 +46,12 @@ module _ (s : List ℕ) (at : ℕ) where
       let e : at + 28 + 2 ≡ at + 30 = omega arith in
       let g : at + 28 + 3 ≡ at + 31 = omega arith in
       rw (le-leb _ _ metres, lt-ltb _ _ source, lt-ltb _ _ target, le-leb _ _ frc, le-leb _ _ fow, le-leb _ _ access, eq-eqb _ _ zero, eq-eqb _ _ (z .0), eq-eqb _ _ (rw d at (z .1)), eq-eqb _ _ (rw e at (z .2)), eq-eqb _ _ (rw g at (z .3)))
+
+  pub number-whole : (n : ℕ) → u32-at s at < n → Good ≡ check s at (number-table n)
+  unfolding number-table check-then need
+  number-whole n h =
+      let first : at + 0 ≡ at = omega arith in
+      rw (first, lt-ltb _ _ h)
 
   pub row-whole : (n : ℕ) → u32-at s at < n → u32-at s (at + 4) ≡ 0 → u64-at s (at + 8) ≤ most-f64 → u64-at s (at + 16) ≤ most-bearing → u64-at s (at + 24) ≤ most-f64 → u64-at s (at + 32) ≤ most-f64 → Good ≡ check s at (row-table n)
   unfolding row-table check-then alike need

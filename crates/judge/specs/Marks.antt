@@ -10,5 +10,9 @@ abbrev pub mark : Bool → ℕ
 mark true = 1
 mark false = 0
 
+-- none of the first `size` marks is set
+abbrev pub Clear : ℕ → List ℕ → Type 0
+Clear size marks = (v : ℕ) → v < size → getD marks v 0 ≡ 0
+
 abbrev pub Marks : (ℕ → ℕ) → ℕ → List ℕ → ℕ → Type 0
 Marks f size marks k = (v : ℕ) → v < size → getD marks v 0 ≡ mark (met f v k)

@@ -1,26 +1,31 @@
 // Refusal 5: the lists.
 use model::Counts;
+use sheet::layout;
 use sheet::numbers;
 ghost use mathlib.Core.Path.{_≡_};
-ghost use Prim.Native.Nat.{_<_};
+ghost use Prim.Native.Nat.{_≤_, _<_};
+ghost use lib.ListN.{length};
 ghost use Rattle.model.specs.Table.{every};
 ghost use Rattle.model.specs.Judge.{Sound, start-rises, in-part, entry-good, lists-good};
+ghost use Rattle.judge.specs.Marks.{Clear};
 
-// The start positions never fall.
+// The start positions never fall, with no branch on any of them: where one falls, its difference wraps and has its top bit set.
 fn starts_rise(s: &[u8], c: Counts) -> bool
     requires { ⌜ Sound (now s) c ⌝ }
     ensures { λ v. ⌜ v ≡ every (start-rises (now (s .entry)) c) (c .n) 0 ⌝ }
 {
+    let mut all: usize = 0;
     let mut i = 0;
     let mut left = c.n;
     while 0 < left {
-        if numbers::start(s, c, i + 1) < numbers::start(s, c, i) {
-            return false;
-        }
+        let at = layout::lists_at(c) + i * 4;
+        let this = fields::count_at(s, at);
+        let next = fields::count_at(s, at + 4);
+        all = all | std::num::wrapping_sub_usize(next, this);
         i += 1;
         left -= 1;
     }
-    true
+    all < 0x8000_0000_0000_0000
 }
 
 // Place j lies in node i's part.
@@ -36,11 +41,10 @@ fn in_part(s: &[u8], c: Counts, i: usize, j: usize) -> bool
 }
 
 // Each road stands in its source's part, once: a mark for each road that was met.
-fn entries_good(s: &[u8], c: Counts) -> bool
-    requires { ⌜ Sound (now s) c ⌝ }
+fn entries_once(s: &[u8], c: Counts, marks: &mut [u8]) -> bool
+    requires { ⌜ Sound (now s) c × (c .e ≤ length (now marks)) × Clear (c .e) (now marks) ⌝ }
     ensures { λ v. ⌜ v ≡ every (entry-good (now (s .entry)) c) (c .e) 0 ⌝ }
 {
-    let mut marks = [0u8; model::MOST_ROADS];
     let mut j = 0;
     let mut left = c.e;
     while 0 < left {
@@ -57,6 +61,19 @@ fn entries_good(s: &[u8], c: Counts) -> bool
         left -= 1;
     }
     true
+}
+
+// The same, with marks for few roads or for all that a sheet can have: to clear those takes longer than to judge a small sheet.
+fn entries_good(s: &[u8], c: Counts) -> bool
+    requires { ⌜ Sound (now s) c ⌝ }
+    ensures { λ v. ⌜ v ≡ every (entry-good (now (s .entry)) c) (c .e) 0 ⌝ }
+{
+    if c.e <= 256 {
+        let mut few = [0u8; 256];
+        return entries_once(s, c, &mut few);
+    }
+    let mut marks = [0u8; model::MOST_ROADS];
+    entries_once(s, c, &mut marks)
 }
 
 // Start positions: first 0, last E, never falling; then each road in its source's part once.

@@ -10,7 +10,7 @@ ghost use lib.ListN.{length};
 ghost use Rattle.model.specs.Layout.{goal-width};
 ghost use Rattle.model.specs.declared.Verdict.the-variants.{Good};
 ghost use Rattle.model.specs.Table.{check, records, _then_};
-ghost use Rattle.model.specs.Judge.{settings-table, point-table, road-table, row-table, distance-table, goal-table};
+ghost use Rattle.model.specs.Judge.{settings-table, point-table, road-table, number-table, row-table, distance-table, goal-table};
 ghost use Rattle.judge.specs.Parts.{table-of, width-of};
 
 // The greatest bearing, 360, by its bits.
@@ -200,6 +200,29 @@ fn run(s: &[u8], part: Part, w: usize, k: usize, base: usize, n: usize) -> Verdi
     Verdict::Good
 }
 
+// Whether k numbers are all below n, with no branch on any of them.
+// A number v below n has a clear top bit, and so has v + (2^31 - n); of greater ones one of the two is set.
+fn all_below(s: &[u8], base: usize, k: usize, n: usize) -> bool
+    requires { ⌜ base + k * 4 ≤ length (now s) ⌝ }
+    ensures { λ r. ⌜ (r ≡ true → Good ≡ records (now (s .entry)) 4 (number-table n) k base) ⌝ }
+{
+    if model::MOST_ROADS < n {
+        return false;
+    }
+    let room = 0x8000_0000 - n as u32;
+    let mut all: u32 = 0;
+    let mut at = base;
+    let mut left = k;
+    while 0 < left {
+        let v = fields::u32_at(s, at);
+        let w = std::num::wrapping_add_u32(v, room);
+        all = all | v | w;
+        at += 4;
+        left -= 1;
+    }
+    all < 0x8000_0000
+}
+
 // k records of w bytes each, where `before` is good.
 pub(crate) fn after(
     before: Verdict,
@@ -217,6 +240,20 @@ pub(crate) fn after(
         return Verdict::Bad(a);
     }
     run(s, part, w, k, base, n)
+}
+
+// k numbers, where `before` is good: one by one only where one is bad.
+pub(crate) fn numbers(before: Verdict, s: &[u8], k: usize, base: usize, n: usize) -> Verdict
+    requires { ⌜ base + k * 4 ≤ length (now s) ⌝ }
+    ensures { λ r. ⌜ r ≡ (before then records (now (s .entry)) 4 (number-table n) k base) ⌝ }
+{
+    if let Verdict::Bad(a) = before {
+        return Verdict::Bad(a);
+    }
+    if all_below(s, base, k, n) {
+        return Verdict::Good;
+    }
+    run(s, Part::Number, 4, k, base, n)
 }
 
 // k distances, where `before` is good.

@@ -98,7 +98,7 @@ fn fields_good(s: &[u8], c: Counts) -> Verdict
     let v = parts::after(v, s, Part::Settings, 112, 1, 56, 0);
     let v = parts::after(v, s, Part::Point, 24, c.p, 168, 0);
     let v = parts::after(v, s, Part::Road, 32, c.e, roads, c.n);
-    let v = parts::after(v, s, Part::Number, 4, c.e, numbers, c.e);
+    let v = parts::numbers(v, s, c.e, numbers, c.e);
     let v = parts::after(v, s, Part::Row, 40, c.m, rows, c.e);
     let v = parts::distances(v, s, c.n + c.n, distances);
     parts::after(v, s, Part::Goal, width, c.g, goals, c.n)

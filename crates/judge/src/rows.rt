@@ -3,10 +3,10 @@ use model::Counts;
 use sheet::numbers;
 ghost use mathlib.Core.Path.{_≡_};
 ghost use Prim.Native.Nat.{_+_, _-_, _≤_, _<_};
-ghost use Rattle.model.specs.Layout.{most-nodes};
+ghost use lib.ListN.{length};
 ghost use Rattle.model.specs.Table.{every};
 ghost use Rattle.model.specs.Judge.{Sound, row-count, rows-before, row-rises, point-rises, goal-rises, has-goal, goal-node, rows-good};
-ghost use Rattle.judge.specs.Marks.{Marks};
+ghost use Rattle.judge.specs.Marks.{Clear, Marks};
 
 // The rows of all points.
 fn all_rows(s: &[u8], c: Counts) -> usize
@@ -78,27 +78,24 @@ fn goals_rise(s: &[u8], c: Counts) -> bool
 }
 
 // A mark for each node that has a goal row.
-fn goal_marks(s: &[u8], c: Counts) -> [u8; model::MOST_NODES]
-    requires { ⌜ Sound (now s) c ⌝ }
-    ensures { λ v. ⌜ Marks (goal-node (now (s .entry)) c) most-nodes v (c .g) ⌝ }
+fn goal_marks(s: &[u8], c: Counts, marks: &mut [u8])
+    requires { ⌜ Sound (now s) c × (c .n ≤ length (now marks)) × Clear (c .n) (now marks) ⌝ }
+    ensures { λ _. ⌜ Marks (goal-node (now (s .entry)) c) (c .n) (now (marks .exit)) (c .g) ⌝ }
 {
     let g = c.g;
-    let mut marks = [0u8; model::MOST_NODES];
     let mut k = 0;
     while k < g {
         let v = numbers::goal_node(s, c, k);
         marks[v] = 1;
         k += 1;
     }
-    marks
 }
 
-// The source of the road of each row after the first point's has a goal row.
-fn goals_cover(s: &[u8], c: Counts) -> bool
-    requires { ⌜ Sound (now s) c × (rows-before (now s) (c .p) ≡ c .m) × (0 < c .p) ⌝ }
+// The source of the road of each row after the first point's is marked.
+fn sources_marked(s: &[u8], c: Counts, marks: &[u8]) -> bool
+    requires { ⌜ Sound (now s) c × (rows-before (now s) (c .p) ≡ c .m) × (0 < c .p) × (c .n ≤ length (now marks)) × Marks (goal-node (now s) c) (c .n) (now marks) (c .g) ⌝ }
     ensures { λ v. ⌜ v ≡ every (has-goal (now (s .entry)) c) (c .m - row-count (now (s .entry)) 0) (row-count (now (s .entry)) 0) ⌝ }
 {
-    let marks = goal_marks(s, c);
     let first = numbers::row_count(s, c, 0);
     let mut k = first;
     let mut left = c.m - first;
@@ -112,6 +109,21 @@ fn goals_cover(s: &[u8], c: Counts) -> bool
         left -= 1;
     }
     true
+}
+
+// The source of the road of each row after the first point's has a goal row: marks for few nodes, or for all that a sheet can have.
+fn goals_cover(s: &[u8], c: Counts) -> bool
+    requires { ⌜ Sound (now s) c × (rows-before (now s) (c .p) ≡ c .m) × (0 < c .p) ⌝ }
+    ensures { λ v. ⌜ v ≡ every (has-goal (now (s .entry)) c) (c .m - row-count (now (s .entry)) 0) (row-count (now (s .entry)) 0) ⌝ }
+{
+    if c.n <= 128 {
+        let mut few = [0u8; 128];
+        goal_marks(s, c, &mut few);
+        return sources_marked(s, c, &few);
+    }
+    let mut marks = [0u8; model::MOST_NODES];
+    goal_marks(s, c, &mut marks);
+    sources_marked(s, c, &marks)
 }
 
 // The row counts add up to M, roads and goals rise, and goal rows cover the rows.

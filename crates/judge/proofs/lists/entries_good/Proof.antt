@@ -1,115 +1,36 @@
-use Prim.Native.Nat.{_+_, _<_}
-use native.Mathlib.Omega.{arith}
-use mathlib.Core.Path.{_≡_, refl, sym, _∙_}
-use lib.ListN.{length, length-set}
-use borrow.Author.Tests.{not-true, not-false}
+use borrow.Author.Needs.{needs}
 use Rattle.model.specs.Layout.{most-roads}
-use Rattle.model.specs.Table.{every}
-use Rattle.model.specs.Judge.{entry-of, entry-good}
-use Rattle.model.proofs.Turns.{every-good, every-bad, every-none}
-use Rattle.judge.specs.Marks.{Marks}
-use Rattle.judge.proofs.Marking.{marks-none, marks-next, not-met, was-met, entry-out, entry-met, entry-fine}
+use Rattle.judge.proofs.Marking.{all-clear}
 use Rattle.judge.proofs.lists.entries_good.Statement.{statement}
 use Rattle.judge.proofs.lists.entries_good.Tie as tie
 
-abbrev Inv-loop : tie.InvT-loop
-Inv-loop s c marks₀ j₀ left₀ marks j left =
-    (j + left ≡ c .e) × (length marks ≡ most-roads) × Marks (entry-of s c) most-roads marks j × (every (entry-good s c) left j ≡ every (entry-good s c) (c .e) 0)
+slice-aggregate-entries-once : tie.Need-slice-aggregate-entries-once
+slice-aggregate-entries-once c = search needs
 
-abbrev μ-loop : tie.MeasureT-loop
-μ-loop s c marks₀ j₀ left₀ marks j left = left
+entries-once-requires : tie.Need-entries-once-requires
+entries-once-requires c κs = (c .before .before .before .before .pre, c .before .if1 .taken, all-clear 256 (c .before .before .before .before .args .c .e) (c .before .if1 .taken))
 
--- there is a mark for the road that was read
-room : (c : tie.After-entry Inv-loop μ-loop) → c .entry .result < most-roads
-room c = omega (arith, c .entry .ensures .1, c .before .before .before .before .pre .small .e)
+returns : tie.Need-returns
+returns c = search needs
 
-loop-holds : tie.Need-loop-holds Inv-loop μ-loop
-loop-holds c =
-    let a = c .before .args in
-    (omega arith, refl, marks-none (entry-of (a .s .now) (a .c)) most-roads, refl)
+slice-aggregate-entries-once-2 : tie.Need-slice-aggregate-entries-once-2
+slice-aggregate-entries-once-2 c = search needs
 
-entry-requires : tie.Need-entry-requires Inv-loop μ-loop
-entry-requires c κs = (c .before .before .before .pre, omega arith)
+entries-once-requires-2 : tie.Need-entries-once-requires-2
+entries-once-requires-2 c κs =
+    let p = c .before .before .before .before in
+    (p .pre, p .pre .small .e, all-clear most-roads (p .args .c .e) (p .pre .small .e))
 
-source-requires : tie.Need-source-requires Inv-loop μ-loop
-source-requires c κs = (c .before .before .before .before .pre, c .entry .ensures .1)
-
-in-part-requires : tie.Need-in-part-requires Inv-loop μ-loop
-in-part-requires c κs = (c .before .before .before .before .before .pre, c .source .ensures .1)
-
-returns : tie.Need-returns Inv-loop μ-loop
-returns c =
-    let l = c .before .before .before .before .before .loop in
-    let a = c .before .before .before .before .before .before .before .args in
-    let r = c .before .before .before .entry in
-    let i = c .before .before .source in
-    let p = c .before .in-part in
-    let out = entry-out (a .s .now) (a .c) (l .j) (r .result) (i .result) (p .result) (r .ensures .0) (i .ensures .0) (p .ensures) (not-true _ (c .if1 .taken)) in
-    every-bad (entry-good (a .s .now) (a .c)) (l .left) (l .j) (c .before .before .before .before .loop-test .taken) out ∙ l .inv .3
-
-array-read-if2 : tie.Need-array-read-if2 Inv-loop μ-loop
-array-read-if2 c = omega (arith, room (c .before .before .before))
-
-returns-2 : tie.Need-returns-2 Inv-loop μ-loop
-returns-2 c =
-    let l = c .before .before .before .before .before .before .loop in
-    let a = c .before .before .before .before .before .before .before .before .args in
-    let r = c .before .before .before .before .entry in
-    let i = c .before .before .before .source in
-    let p = c .before .before .in-part in
-    let again = was-met (entry-of (a .s .now) (a .c)) most-roads (l .marks) (l .j) (l .inv .2) (r .result) (room (c .before .before .before .before)) (c .if2 .taken) in
-    let bad = entry-met (a .s .now) (a .c) (l .j) (r .result) (i .result) (p .result) (r .ensures .0) (i .ensures .0) (p .ensures) (not-false _ (c .before .if1 .left)) again in
-    every-bad (entry-good (a .s .now) (a .c)) (l .left) (l .j) (c .before .before .before .before .before .loop-test .taken) bad ∙ l .inv .3
-
-array-write-marks : tie.Need-array-write-marks Inv-loop μ-loop
-array-write-marks c = omega (arith, room (c .before .before .before .before))
-
-add-j : tie.Need-add-j Inv-loop μ-loop
-add-j c = omega arith
-
-sub-left : tie.Need-sub-left Inv-loop μ-loop
-sub-left c = omega arith
-
-loop-less : tie.Need-loop-less Inv-loop μ-loop
-loop-less c = omega arith
-
-loop-again : tie.Need-loop-again Inv-loop μ-loop
-loop-again c =
-    let l = c .before .before .before .before .before .before .loop in
-    let a = c .before .before .before .before .before .before .before .before .args in
-    let r = c .before .before .before .before .entry in
-    let i = c .before .before .before .source in
-    let p = c .before .before .in-part in
-    let new = not-met (entry-of (a .s .now) (a .c)) most-roads (l .marks) (l .j) (l .inv .2) (r .result) (room (c .before .before .before .before)) (c .if2 .left) in
-    let good = entry-fine (a .s .now) (a .c) (l .j) (r .result) (i .result) (p .result) (r .ensures .0) (i .ensures .0) (p .ensures) (not-false _ (c .before .if1 .left)) new in (
-      omega arith,
-      rw length-set (l .inv .1),
-      marks-next (entry-of (a .s .now) (a .c)) most-roads (l .marks) (r .result) (l .j) (l .inv .1) (room (c .before .before .before .before)) (sym (r .ensures .0)) (l .inv .2),
-      every-good (entry-good (a .s .now) (a .c)) (l .left) (l .j) (c .before .before .before .before .before .loop-test .taken) good ∙ l .inv .3,
-    )
-
-returns-3 : tie.Need-returns-3 Inv-loop μ-loop
-returns-3 c =
-    let l = c .before .loop in
-    let a = c .before .before .before .args in
-    every-none (entry-good (a .s .now) (a .c)) (l .left) (l .j) (c .loop-test .left) ∙ l .inv .3
+returns-2 : tie.Need-returns-2
+returns-2 c = search needs
 
 pub entries-good-spec : {M : Type 1} → statement M
 entries-good-spec =
     tie.close
     (tie.spec
-    Inv-loop
-    μ-loop
-    loop-holds
-    entry-requires
-    source-requires
-    in-part-requires
+    slice-aggregate-entries-once
+    entries-once-requires
     returns
-    array-read-if2
-    returns-2
-    array-write-marks
-    add-j
-    sub-left
-    loop-less
-    loop-again
-    returns-3)
+    slice-aggregate-entries-once-2
+    entries-once-requires-2
+    returns-2)

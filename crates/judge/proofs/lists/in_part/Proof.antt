@@ -1,16 +1,16 @@
+use native.Mathlib.Omega.{arith}
 use borrow.Author.Tests.{le-leb, lt-leb}
-use borrow.Author.Needs.{needs}
 use Rattle.judge.proofs.lists.in_part.Statement.{statement}
 use Rattle.judge.proofs.lists.in_part.Tie as tie
 
 start-requires : tie.Need-start-requires
-start-requires c κs = search needs
+start-requires c κs = (c .before .pre .0, omega arith)
 
 add-start : tie.Need-add-start
-add-start c = search needs
+add-start c = omega (arith, c .before .before .before .pre .0 .small .n)
 
 start-requires-2 : tie.Need-start-requires-2
-start-requires-2 c κs = search needs
+start-requires-2 c κs = (c .before .before .before .pre .0, omega arith)
 
 returns : tie.Need-returns
 returns c = rw (← c .before .before .start .ensures, ← c .start2 .ensures, le-leb _ _ (c .before .if1 .taken))

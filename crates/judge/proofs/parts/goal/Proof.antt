@@ -1,17 +1,17 @@
+use native.Mathlib.Omega.{arith}
 use Rattle.model.specs.Table.{check-then, alike}
 use Rattle.model.specs.Judge.{goal-table}
-use borrow.Author.Needs.{needs}
 use Rattle.judge.proofs.parts.goal.Statement.{statement}
 use Rattle.judge.proofs.parts.goal.Tie as tie
 
 measures-requires : tie.Need-measures-requires
-measures-requires c κs = search needs
+measures-requires c κs = omega (arith, c .before .pre)
 
 spare-requires : tie.Need-spare-requires
-spare-requires c κs = search needs
+spare-requires c κs = omega (arith, c .before .before .pre)
 
 number-requires : tie.Need-number-requires
-number-requires c κs = search needs
+number-requires c κs = omega (arith, c .before .before .before .pre)
 
 returns : tie.Need-returns
 unfolding goal-table check-then alike

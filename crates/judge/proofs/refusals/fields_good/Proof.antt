@@ -1,7 +1,7 @@
 use native.Mathlib.Omega.{arith}
 use borrow.Author.Needs.{needs}
-use Rattle.model.specs.Table.{first-bad-after, first-bad, _then_}
 use Rattle.model.specs.Judge.{fields-good}
+use Rattle.model.specs.Table.{first-bad-after, first-bad, _then_}
 use Rattle.judge.proofs.refusals.fields_good.Statement.{statement}
 use Rattle.judge.proofs.refusals.fields_good.Tie as tie
 
@@ -35,11 +35,11 @@ after-requires-3 c κs = search needs
 after-requires-4 : tie.Need-after-requires-4
 after-requires-4 c κs = search needs
 
+numbers-requires : tie.Need-numbers-requires
+numbers-requires c κs = search needs
+
 after-requires-5 : tie.Need-after-requires-5
 after-requires-5 c κs = search needs
-
-after-requires-6 : tie.Need-after-requires-6
-after-requires-6 c κs = search needs
 
 add-distances : tie.Need-add-distances
 add-distances c = search needs
@@ -47,8 +47,8 @@ add-distances c = search needs
 distances-requires : tie.Need-distances-requires
 distances-requires c κs = omega (arith, c .before .before .before .before .before .before .before .before .before .before .before .before .before .before .pre, c .before .before .before .before .before .before .before .before .before .distances-at .ensures)
 
-after-requires-7 : tie.Need-after-requires-7
-after-requires-7 c κs =
+after-requires-6 : tie.Need-after-requires-6
+after-requires-6 c κs =
     let width = c .before .before .before .before .before .before .before .before .goal-width .ensures in
     (width, rw (width, c .before .before .before .before .before .before .before .before .before .goals-at .ensures) (omega (arith, c .before .before .before .before .before .before .before .before .before .before .before .before .before .before .before .pre)))
 
@@ -56,10 +56,10 @@ returns : tie.Need-returns
 unfolding fields-good first-bad first-bad-after _then_
 returns c =
     rw (
-      c .after7 .ensures,
+      c .after6 .ensures,
       c .before .distances .ensures,
-      c .before .before .before .after6 .ensures,
-      c .before .before .before .before .after5 .ensures,
+      c .before .before .before .after5 .ensures,
+      c .before .before .before .before .numbers .ensures,
       c .before .before .before .before .before .after4 .ensures,
       c .before .before .before .before .before .before .after3 .ensures,
       c .before .before .before .before .before .before .before .after2 .ensures,
@@ -86,9 +86,9 @@ fields-good-spec =
     after-requires-2
     after-requires-3
     after-requires-4
+    numbers-requires
     after-requires-5
-    after-requires-6
     add-distances
     distances-requires
-    after-requires-7
+    after-requires-6
     returns)

@@ -1,100 +1,52 @@
-use Prim.Native.Nat.{_+_, _-_, _<_}
-use native.Mathlib.Omega.{arith}
-use mathlib.Core.Path.{_≡_, _∙_}
-use Rattle.model.specs.Table.{every}
+use borrow.Author.Needs.{needs}
 use Rattle.model.specs.Layout.{most-nodes}
-use Rattle.model.specs.Judge.{has-goal, goal-node, row-count}
-use Rattle.model.proofs.Turns.{every-good, every-bad, every-none}
-use Rattle.judge.proofs.Marking.{not-met, was-met}
-use Rattle.model.proofs.RowSums.{first-le}
+use Rattle.judge.proofs.Marking.{all-clear}
 use Rattle.judge.proofs.rows.goals_cover.Statement.{statement}
 use Rattle.judge.proofs.rows.goals_cover.Tie as tie
 
-abbrev Inv-loop : tie.InvT-loop
-Inv-loop s c marks first k₀ left₀ k left =
-    (k + left ≡ c .m) × (every (has-goal s c) left k ≡ every (has-goal s c) (c .m - row-count s 0) (row-count s 0))
+slice-aggregate-goal-marks : tie.Need-slice-aggregate-goal-marks
+slice-aggregate-goal-marks c = search needs
 
-abbrev μ-loop : tie.MeasureT-loop
-μ-loop s c marks first k₀ left₀ k left = left
+goal-marks-requires : tie.Need-goal-marks-requires
+goal-marks-requires c κs = (c .before .before .before .before .pre .0, c .before .if1 .taken, all-clear 128 (c .before .before .before .before .args .c .n) (c .before .if1 .taken))
 
-goal-marks-requires : tie.Need-goal-marks-requires Inv-loop μ-loop
-goal-marks-requires c κs = c .before .pre .0
+slice-aggregate-sources-marked : tie.Need-slice-aggregate-sources-marked
+slice-aggregate-sources-marked c = search needs
 
-row-count-requires : tie.Need-row-count-requires Inv-loop μ-loop
-row-count-requires c κs = (c .before .before .pre .0, c .before .before .pre .2)
+sources-marked-requires : tie.Need-sources-marked-requires
+sources-marked-requires c κs = search needs
 
-sub-left : tie.Need-sub-left Inv-loop μ-loop
-sub-left c =
-    let p = c .before .before .before .before in
-    omega (arith, c .before .row-count .ensures .0, first-le (p .args .s .now) (p .args .c .p) (p .pre .2), p .pre .1)
+returns : tie.Need-returns
+returns c = search needs
 
-loop-holds : tie.Need-loop-holds Inv-loop μ-loop
-loop-holds c =
-    let p = c .before .before .before .before in
-    (omega (arith, c .before .row-count .ensures .0, first-le (p .args .s .now) (p .args .c .p) (p .pre .2), p .pre .1), rw (c .before .row-count .ensures .0))
+slice-aggregate-goal-marks-2 : tie.Need-slice-aggregate-goal-marks-2
+slice-aggregate-goal-marks-2 c = search needs
 
-row-road-requires : tie.Need-row-road-requires Inv-loop μ-loop
-row-road-requires c κs = (c .before .before .before .before .before .before .pre .0, omega arith)
+goal-marks-requires-2 : tie.Need-goal-marks-requires-2
+goal-marks-requires-2 c κs =
+    let p = c .before .before .before .before .pre .0 .small .n in
+    (c .before .before .before .before .pre .0, p, all-clear most-nodes (c .before .before .before .before .args .c .n) p)
 
-source-requires : tie.Need-source-requires Inv-loop μ-loop
-source-requires c κs = (c .before .before .before .before .before .before .before .pre .0, c .row-road .ensures .1)
+slice-aggregate-sources-marked-2 : tie.Need-slice-aggregate-sources-marked-2
+slice-aggregate-sources-marked-2 c = search needs
 
--- there is a mark for the node that was read
-room : (c : tie.After-source Inv-loop μ-loop) → c .source .result < most-nodes
-room c = omega (arith, c .source .ensures .1, c .before .before .before .before .before .before .before .before .pre .0 .small .n)
+sources-marked-requires-2 : tie.Need-sources-marked-requires-2
+sources-marked-requires-2 c κs = search needs
 
-array-read-if1 : tie.Need-array-read-if1 Inv-loop μ-loop
-array-read-if1 c = omega (arith, room c)
-
-returns : tie.Need-returns Inv-loop μ-loop
-returns c =
-    let l = c .before .before .before .before .loop in
-    let a = c .before .before .before .before .before .before .before .before .before .args in
-    let marks = c .before .before .before .before .before .before .before .goal-marks in
-    let none = not-met (goal-node (a .s .now) (a .c)) most-nodes (marks .result) (a .c .g) (marks .ensures) (c .before .source .result) (room (c .before)) (c .if1 .taken) in
-    every-bad (has-goal (a .s .now) (a .c)) (l .left) (l .k) (c .before .before .before .loop-test .taken) (rw (← c .before .before .row-road .ensures .0, ← c .before .source .ensures .0) none) ∙ l .inv .1
-
-add-k : tie.Need-add-k Inv-loop μ-loop
-add-k c = omega (arith, c .before .before .before .before .before .before .before .before .before .pre .0 .small .m)
-
-sub-left-2 : tie.Need-sub-left-2 Inv-loop μ-loop
-sub-left-2 c = omega arith
-
-loop-less : tie.Need-loop-less Inv-loop μ-loop
-loop-less c = omega arith
-
-loop-again : tie.Need-loop-again Inv-loop μ-loop
-loop-again c =
-    let l = c .before .before .before .before .loop in
-    let a = c .before .before .before .before .before .before .before .before .before .args in
-    let marks = c .before .before .before .before .before .before .before .goal-marks in
-    let one = was-met (goal-node (a .s .now) (a .c)) most-nodes (marks .result) (a .c .g) (marks .ensures) (c .before .source .result) (room (c .before)) (c .if1 .left) in (
-      omega arith,
-      every-good (has-goal (a .s .now) (a .c)) (l .left) (l .k) (c .before .before .before .loop-test .taken) (rw (← c .before .before .row-road .ensures .0, ← c .before .source .ensures .0) one) ∙ l .inv .1,
-    )
-
-returns-2 : tie.Need-returns-2 Inv-loop μ-loop
-returns-2 c =
-    let l = c .before .loop in
-    let a = c .before .before .before .before .before .before .args in
-    every-none (has-goal (a .s .now) (a .c)) (l .left) (l .k) (c .loop-test .left) ∙ l .inv .1
+returns-2 : tie.Need-returns-2
+returns-2 c = search needs
 
 pub goals-cover-spec : {M : Type 1} → statement M
 goals-cover-spec =
     tie.close
     (tie.spec
-    Inv-loop
-    μ-loop
+    slice-aggregate-goal-marks
     goal-marks-requires
-    row-count-requires
-    sub-left
-    loop-holds
-    row-road-requires
-    source-requires
-    array-read-if1
+    slice-aggregate-sources-marked
+    sources-marked-requires
     returns
-    add-k
-    sub-left-2
-    loop-less
-    loop-again
+    slice-aggregate-goal-marks-2
+    goal-marks-requires-2
+    slice-aggregate-sources-marked-2
+    sources-marked-requires-2
     returns-2)

@@ -2,16 +2,16 @@ use Prim.Native.Nat.{_-_, _≤_}
 use native.Mathlib.Omega.{arith}
 use mathlib.Core.Path.{ap}
 use borrow.Author.Tests.{eq-eqb, ne-eqb, not-true, not-false}
+use borrow.Author.Needs.{needs}
 use Rattle.model.specs.Table.{all-after, all-of}
 use Rattle.model.specs.Judge.{rows-good, rows-before, row-count, has-goal}
 use Rattle.model.proofs.Turns.{every-none}
 use Rattle.model.proofs.RowSums.{before-none}
-use borrow.Author.Needs.{needs}
 use Rattle.judge.proofs.rows.rows_good.Statement.{statement}
 use Rattle.judge.proofs.rows.rows_good.Tie as tie
 
 all-rows-requires : tie.Need-all-rows-requires
-all-rows-requires c κs = search needs
+all-rows-requires c κs = c .before .pre
 
 returns : tie.Need-returns
 unfolding rows-good all-of all-after
@@ -25,7 +25,7 @@ unfolding rows-good all-of all-after
 returns-2 c = rw (← c .before .before .before .before .all-rows .ensures, eq-eqb _ _ (c .before .before .if1 .left), ← c .before .points-rise .ensures, not-true (c .before .points-rise .result) (c .if2 .taken))
 
 goals-rise-requires : tie.Need-goals-rise-requires
-goals-rise-requires c κs = search needs
+goals-rise-requires c κs = c .before .before .before .before .before .before .pre
 
 returns-3 : tie.Need-returns-3
 unfolding rows-good all-of all-after
