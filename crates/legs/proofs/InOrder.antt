@@ -1,5 +1,5 @@
 -- The pairs that a leg tries, in the order of their sums: where the heads stand after t of them, and which comes next.
-use Prim.Native.Nat.{ℕ, suc, _+_, _*_, _≤_, _<_}
+use Prim.Native.Nat.{ℕ, suc, _*_, _≤_, _<_}
 use mathlib.Core.Path.{_≡_, refl, sym, ap, _∙_}
 use mathlib.Core.List.{List, _∷_}
 use native.Mathlib.Numerals.{add-one}
@@ -14,7 +14,7 @@ use Rattle.model.specs.Judge.{WellFormed}
 use Rattle.model.specs.Sheet.{sheet-of}
 use Rattle.model.specs.Legs.{Pair, pair, leg-pairs, by-sum}
 use Rattle.candidates.specs.declared.find.Shortlist.{Shortlist}
-use Rattle.candidates.specs.Found.{candidates-at, no-candidate, Listed}
+use Rattle.candidates.specs.Found.{candidates-at, Listed}
 use Rattle.candidates.specs.Ranking.{score-place, ScoresAt}
 use Rattle.candidates.proofs.Gathered.{candidates-facts, candidates-ordered}
 use Rattle.rules.proofs.OneRoad.{ten-long, ten-at}

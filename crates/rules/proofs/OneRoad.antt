@@ -15,7 +15,7 @@ use Rattle.model.specs.declared.Limits.{Limits}
 use Rattle.model.specs.Numbers.{_≤ᶠ_, f10}
 use Rattle.model.specs.Lists.{fold}
 use Rattle.model.specs.View.{allows}
-use Rattle.model.specs.Legs.{Pair, Scored, pair, pairs, leg-pairs, close, take-close, try-same-edge-solution}
+use Rattle.model.specs.Legs.{Pair, Scored, pair, pairs, close, take-close, try-same-edge-solution}
 use Rattle.model.proofs.Members.{getD-map}
 use Rattle.candidates.specs.Found.{no-candidate, tried}
 use Rattle.candidates.proofs.Folds.{fold-append, fold-one-more}

@@ -6,90 +6,67 @@ use Rattle.legs.proofs.Ending.{outright, by-pairs, alone-fits}
 use borrow.Author.Needs.{needs}
 use Rattle.legs.proofs.find_best_path.Statement.{statement}
 use Rattle.legs.proofs.find_best_path.Tie as tie
-use Rattle.legs.proofs.find_best_path.Reads as reads
-use Rattle.legs.proofs.find_best_path.Lts as lts
-use Rattle.legs.proofs.best_or_none.Reads as best-or-none-reads
-use Rattle.legs.proofs.ended.Reads as ended-reads
-use Rattle.legs.proofs.tries.try_pairs.Reads as try-pairs-reads
-use Rattle.rules.proofs.routes.without_middle.Reads as without-middle-reads
-use Rattle.rules.proofs.same_edge.try_same_edge_solution.Reads as try-same-edge-solution-reads
 
--- src/lib.rt:90:9
 try-same-edge-solution-requires : tie.Need-try-same-edge-solution-requires
 try-same-edge-solution-requires c κs = search needs
 
--- src/lib.rt:92:13
 without-middle-requires : tie.Need-without-middle-requires
 without-middle-requires c κs = search needs
 
--- src/lib.rt:93:9
 best-or-none-requires : tie.Need-best-or-none-requires
 best-or-none-requires c κs = search needs
 
--- src/lib.rt:93:9
 returns : tie.Need-returns
 returns c = let a = c .before .before .before .before .before .before .before .before .before .before .before .before .before .before .before .before .args in let p = c .before .before .before .before .before .before .before .before .before .before .before .before .before .before .before .before .pre .0 in
     let t = sheet-of (a .s .now) (a .c) in
     let same = c .before .before .before .try-same-edge-solution in
     let alone = c .before .without-middle in
     let best-route = a .best-route .now in (
-    c .best-or-none .ensures .0 (road-at t) best-route ∙ outright (a .b) (seek-at t (a .slots) (a .b)) (candidates-at t (a .starts .number)) (candidates-at t (a .ends .number)) (same .result) (same .ensures) (road-at t) (c .before .before .if1 .taken) (alone .ensures .1 (road-at t) best-route),
-    c .best-or-none .ensures .1 (a .c .n) (a .c .e) best-route (alone-fits _ _ (alone .result) best-route (p .2) (alone .ensures .0)),
+      c .best-or-none .ensures .0 (road-at t) best-route ∙ outright (a .b) (seek-at t (a .slots) (a .b)) (candidates-at t (a .starts .number)) (candidates-at t (a .ends .number)) (same .result) (same .ensures) (road-at t) (c .before .before .if1 .taken) (alone .ensures .1 (road-at t) best-route),
+      c .best-or-none .ensures .1 (a .c .n) (a .c .e) best-route (alone-fits _ _ (alone .result) best-route (p .2) (alone .ensures .0)),
     )
 
--- src/lib.rt:95:9
 try-pairs-requires : tie.Need-try-pairs-requires
 try-pairs-requires c κs = let p = c .before .before .before .before .before .before .before .before .before .before .before .before .before .before .before .before .before .before .before .before .before .before .before .pre in
     ((p .0 .0, p .0 .1, p .0 .3, p .0 .4, p .0 .5, p .0 .6, p .0 .7, p .0 .8, p .0 .9, p .0 .10), p .1)
 
--- src/lib.rt:115:5
 ended-requires : tie.Need-ended-requires
 ended-requires c κs = search needs
 
--- src/lib.rt:64:1
 same-length : tie.Need-same-length
 same-length c = search needs
 
--- src/lib.rt:64:1
 same-length-2 : tie.Need-same-length-2
 same-length-2 c = search needs
 
--- src/lib.rt:64:1
 same-length-3 : tie.Need-same-length-3
 same-length-3 c = search needs
 
--- src/lib.rt:64:1
 same-length-4 : tie.Need-same-length-4
 same-length-4 c = search needs
 
--- src/lib.rt:64:1
 same-length-5 : tie.Need-same-length-5
 same-length-5 c = search needs
 
--- src/lib.rt:64:1
 same-length-6 : tie.Need-same-length-6
 same-length-6 c = search needs
 
--- src/lib.rt:64:1
 same-length-7 : tie.Need-same-length-7
 same-length-7 c = search needs
 
--- src/lib.rt:64:1
 same-length-8 : tie.Need-same-length-8
 same-length-8 c = search needs
 
--- src/lib.rt:64:1
 same-length-9 : tie.Need-same-length-9
 same-length-9 c = search needs
 
--- src/lib.rt:64:1
 returns-2 : tie.Need-returns-2
 returns-2 c = let a = c .before .before .before .before .before .before .before .before .before .before .before .before .before .before .before .before .before .before .before .before .before .before .before .before .before .before .before .before .before .before .before .before .before .before .before .before .before .before .before .before .before .before .before .args in
     let t = sheet-of (a .s .now) (a .c) in
     let same = c .before .before .before .before .before .before .before .before .before .before .before .before .before .before .before .before .before .before .before .before .before .before .before .before .before .before .before .before .before .before .try-same-edge-solution in
     let best-route = c .before .before .before .before .before .before .before .before .before .before .before .before .before .before .before .before .before .before .before .try-pairs .last .1 .1 .1 .1 .1 .1 .1 .1 .1 .1 .1 .1 .1 .0 in (
-    c .ended .ensures .0 (road-at t) best-route ∙ by-pairs (a .b) (seek-at t (a .slots) (a .b)) (candidates-at t (a .starts .number)) (candidates-at t (a .ends .number)) (same .result) (same .ensures) (road-at t) (c .before .before .before .before .before .before .before .before .before .before .before .before .before .before .before .before .before .before .before .before .before .before .before .before .before .before .before .before .before .if1 .left) (c .before .before .before .before .before .before .before .before .before .before .before .before .before .before .before .before .before .before .before .try-pairs .ensures .0),
-    c .ended .ensures .1 (a .c .n) (a .c .e) best-route (c .before .before .before .before .before .before .before .before .before .before .before .before .before .before .before .before .before .before .before .try-pairs .ensures .1),
+      c .ended .ensures .0 (road-at t) best-route ∙ by-pairs (a .b) (seek-at t (a .slots) (a .b)) (candidates-at t (a .starts .number)) (candidates-at t (a .ends .number)) (same .result) (same .ensures) (road-at t) (c .before .before .before .before .before .before .before .before .before .before .before .before .before .before .before .before .before .before .before .before .before .before .before .before .before .before .before .before .before .if1 .left) (c .before .before .before .before .before .before .before .before .before .before .before .before .before .before .before .before .before .before .before .try-pairs .ensures .0),
+      c .ended .ensures .1 (a .c .n) (a .c .e) best-route (c .before .before .before .before .before .before .before .before .before .before .before .before .before .before .before .before .before .before .before .try-pairs .ensures .1),
     )
 
 pub find-best-path-spec : {M : Type 1} → statement M

@@ -4,47 +4,31 @@ use native.Mathlib.Omega.{arith}
 use borrow.Author.Needs.{needs}
 use Rattle.references.proofs.decode_legs.Statement.{statement}
 use Rattle.references.proofs.decode_legs.Tie as tie
-use Rattle.references.proofs.decode_legs.Reads as reads
-use Rattle.references.proofs.decode_legs.Lts as lts
-use Rattle.lines.proofs.runs.decode_line.Reads as decode-line-reads
-use Rattle.lines.proofs.runs.decode_point_along_line.Reads as decode-point-along-line-reads
-use Rattle.references.proofs.ended.Reads as ended-reads
-use Rattle.references.proofs.look_ahead.Reads as look-ahead-reads
-use Rattle.sheet.proofs.points.settings.Reads as settings-reads
 
--- src/lib.rt:106:9
 settings-requires : tie.Need-settings-requires
 settings-requires c κs = search needs
 
--- src/lib.rt:109:34
 slice-aggregate-look-ahead : tie.Need-slice-aggregate-look-ahead
 slice-aggregate-look-ahead c = search needs
 
--- src/lib.rt:109:46
 slice-aggregate-look-ahead-2 : tie.Need-slice-aggregate-look-ahead-2
 slice-aggregate-look-ahead-2 c = search needs
 
--- src/lib.rt:109:9
 look-ahead-requires : tie.Need-look-ahead-requires
 look-ahead-requires c κs = (c .before .before .before .before .before .before .before .before .before .before .before .before .before .before .before .before .pre .0, omega arith, omega arith)
 
--- src/lib.rt:111:24
 enum-known-ahead : tie.Need-enum-known-ahead
 enum-known-ahead c = search needs
 
--- src/lib.rt:117:17
 enum-told : tie.Need-enum-told
 enum-told c = search needs
 
--- src/lib.rt:117:17
 slice-aggregate-decode-line : tie.Need-slice-aggregate-decode-line
 slice-aggregate-decode-line c = search needs
 
--- src/lib.rt:118:17
 slice-aggregate-decode-line-2 : tie.Need-slice-aggregate-decode-line-2
 slice-aggregate-decode-line-2 c = search needs
 
--- src/lib.rt:113:17
 decode-line-requires : tie.Need-decode-line-requires
 decode-line-requires c κs = let a = c .before .before .before .before .before .before .before .before .before .before .before .before .before .before .before .before .before .before .before .before .before .before .before .before .before .before .before .before .before .before .before .before .before .before .before .args in
     let p = c .before .before .before .before .before .before .before .before .before .before .before .before .before .before .before .before .before .before .before .before .before .before .before .before .before .before .before .before .before .before .before .before .before .before .before .pre in
@@ -52,24 +36,19 @@ decode-line-requires c κs = let a = c .before .before .before .before .before .
     let ranked = line-ranked (a .s .now) (a .c) (c .before .before .before .before .before .before .before .before .before .before .before .before .before .before .before .before .before .before .look-ahead .last .1 .1 .0) (c .before .before .before .before .before .before .before .before .before .before .before .before .before .before .before .before .before .before .look-ahead .last .1 .1 .1 .0) (c .before .before .before .before .before .before .before .before .before .before .before .before .before .before .enum-told .given .1) (c .before .before .before .before .before .before .before .before .before .before .before .before .before .before .before .before .before .before .look-ahead .ensures .1) in
     ((p .0, c .before .before .before .before .before .before .before .before .before .before .before .before .before .before .before .before .before .before .before .before .before .settings .ensures, ahead .1, omega (arith, c .before .before .before .before .before .before .before .before .before .before .before .before .before .before .before .before .before .before .look-ahead .kept .1 .1 .0), ranked .0, omega (arith, c .before .before .before .before .before .before .before .before .before .before .before .before .before .before .before .before .before .before .look-ahead .kept .1 .1 .1 .0), ranked .1), p .1)
 
--- src/lib.rt:133:13
 ended-requires : tie.Need-ended-requires
 ended-requires c κs = let a = c .before .before .before .before .before .before .before .before .before .before .before .before .before .before .before .before .before .before .before .before .before .before .before .before .before .before .before .before .before .before .before .before .before .before .before .before .before .before .before .before .before .before .before .before .before .before .before .before .before .before .before .before .before .before .before .before .before .before .before .before .args in
     places (sheet-of (a .s .now) (a .c)) (a .c) (c .before .before .before .before .before .before .before .before .before .before .before .before .before .before .before .before .before .before .before .before .before .before .before .before .before .before .before .before .before .before .before .before .before .before .before .before .before .before .before .before .before .before .before .before .before .before .before .before .before .before .before .before .before .before .before .before .before .before .before .before .pre .0 .sound .small .p) _ _ _ _ _ _ (c .before .before .before .before .before .before .before .before .before .before .before .before .before .before .before .before .before .before .before .before .before .before .before .before .decode-line .ensures)
 
--- src/lib.rt:140:17
 enum-told-2 : tie.Need-enum-told-2
 enum-told-2 c = search needs
 
--- src/lib.rt:140:17
 slice-aggregate-decode-point-along-line : tie.Need-slice-aggregate-decode-point-along-line
 slice-aggregate-decode-point-along-line c = search needs
 
--- src/lib.rt:141:17
 slice-aggregate-decode-point-along-line-2 : tie.Need-slice-aggregate-decode-point-along-line-2
 slice-aggregate-decode-point-along-line-2 c = search needs
 
--- src/lib.rt:136:17
 decode-point-along-line-requires : tie.Need-decode-point-along-line-requires
 decode-point-along-line-requires c κs = let a = c .before .before .before .before .before .before .before .before .before .before .before .before .before .before .before .before .before .before .before .before .before .before .before .before .before .before .before .before .before .before .before .before .before .before .before .args in
     let p = c .before .before .before .before .before .before .before .before .before .before .before .before .before .before .before .before .before .before .before .before .before .before .before .before .before .before .before .before .before .before .before .before .before .before .before .pre in
@@ -77,120 +56,92 @@ decode-point-along-line-requires c κs = let a = c .before .before .before .befo
     let ranked = point-ranked (a .s .now) (a .c) (c .before .before .before .before .before .before .before .before .before .before .before .before .before .before .before .before .before .before .look-ahead .last .1 .1 .0) (c .before .before .before .before .before .before .before .before .before .before .before .before .before .before .before .before .before .before .look-ahead .last .1 .1 .1 .0) (c .before .before .before .before .before .before .before .before .before .before .before .before .before .before .enum-told2 .given .1) (c .before .before .before .before .before .before .before .before .before .before .before .before .before .before .before .before .before .before .look-ahead .ensures .1) in
     ((p .0, c .before .before .before .before .before .before .before .before .before .before .before .before .before .before .before .before .before .before .before .before .before .settings .ensures, ahead .1, ahead .0, omega (arith, c .before .before .before .before .before .before .before .before .before .before .before .before .before .before .before .before .before .before .look-ahead .kept .1 .1 .0), ranked .0, omega (arith, c .before .before .before .before .before .before .before .before .before .before .before .before .before .before .before .before .before .before .look-ahead .kept .1 .1 .1 .0), ranked .1), p .1)
 
--- src/lib.rt:156:13
 ended-requires-2 : tie.Need-ended-requires-2
 ended-requires-2 c κs = let a = c .before .before .before .before .before .before .before .before .before .before .before .before .before .before .before .before .before .before .before .before .before .before .before .before .before .before .before .before .before .before .before .before .before .before .before .before .before .before .before .before .before .before .before .before .before .before .before .before .before .before .before .before .before .before .before .before .before .before .before .before .args in
     places (sheet-of (a .s .now) (a .c)) (a .c) (c .before .before .before .before .before .before .before .before .before .before .before .before .before .before .before .before .before .before .before .before .before .before .before .before .before .before .before .before .before .before .before .before .before .before .before .before .before .before .before .before .before .before .before .before .before .before .before .before .before .before .before .before .before .before .before .before .before .before .before .before .pre .0 .sound .small .p) _ _ _ _ _ _ (c .before .before .before .before .before .before .before .before .before .before .before .before .before .before .before .before .before .before .before .before .before .before .before .before .decode-point-along-line .ensures)
 
--- src/lib.rt:84:1
 returns : tie.Need-returns
 returns c = let a = c .before .before .before .before .before .before .before .before .before .before .before .before .before .before .before .before .before .before .before .before .before .before .args in
     refused-ahead (sheet-of (a .s .now) (a .c)) (a .c) (c .before .before .before .before .before .look-ahead .result) (c .before .before .before .before .before .look-ahead .ensures .0) _ _ (c .before .ahead .given .1) (a .slots) _ _ _
 
--- src/lib.rt:84:1
 same-length : tie.Need-same-length
 same-length c = search needs
 
--- src/lib.rt:84:1
 same-length-2 : tie.Need-same-length-2
 same-length-2 c = search needs
 
--- src/lib.rt:84:1
 same-length-3 : tie.Need-same-length-3
 same-length-3 c = search needs
 
--- src/lib.rt:84:1
 same-length-4 : tie.Need-same-length-4
 same-length-4 c = search needs
 
--- src/lib.rt:84:1
 same-length-5 : tie.Need-same-length-5
 same-length-5 c = search needs
 
--- src/lib.rt:84:1
 same-length-6 : tie.Need-same-length-6
 same-length-6 c = search needs
 
--- src/lib.rt:84:1
 same-length-7 : tie.Need-same-length-7
 same-length-7 c = search needs
 
--- src/lib.rt:84:1
 same-length-8 : tie.Need-same-length-8
 same-length-8 c = search needs
 
--- src/lib.rt:84:1
 same-length-9 : tie.Need-same-length-9
 same-length-9 c = search needs
 
--- src/lib.rt:84:1
 same-length-10 : tie.Need-same-length-10
 same-length-10 c = search needs
 
--- src/lib.rt:84:1
 same-length-11 : tie.Need-same-length-11
 same-length-11 c = search needs
 
--- src/lib.rt:84:1
 same-length-12 : tie.Need-same-length-12
 same-length-12 c = search needs
 
--- src/lib.rt:84:1
 returns-2 : tie.Need-returns-2
 returns-2 c = let a = c .before .before .before .before .before .before .before .before .before .before .before .before .before .before .before .before .before .before .before .before .before .before .before .before .before .before .before .before .before .before .before .before .before .before .before .before .before .before .before .before .before .before .before .before .before .before .before .before .before .before .before .before .before .before .before .before .before .before .before .before .before .args in
     let t = sheet-of (a .s .now) (a .c) in
     let ahead = line-ahead t (a .c) (c .before .before .before .before .before .before .before .before .before .before .before .before .before .before .before .before .before .before .before .before .before .before .before .before .before .before .before .before .before .before .before .before .before .before .before .before .before .before .before .before .before .before .before .before .look-ahead .result) (c .before .before .before .before .before .before .before .before .before .before .before .before .before .before .before .before .before .before .before .before .before .before .before .before .before .before .before .before .before .before .before .before .before .before .before .before .before .before .before .before .before .before .before .before .look-ahead .ensures .0) (c .before .before .before .before .before .before .before .before .before .before .before .before .before .before .before .before .before .before .before .before .before .before .before .before .before .before .before .before .before .before .before .before .before .before .before .before .before .before .before .before .enum-told .given .1) in
     c .ended .ensures t (a .c) _ _ _ _ (ahead .0) (ends-as t (a .c) _ _ _ _ _ _ _ (c .before .before .before .before .before .before .before .before .before .before .before .before .before .before .before .before .before .before .before .before .before .before .before .before .before .decode-line .ensures) (ahead .2 (a .slots)))
 
--- src/lib.rt:84:1
 same-length-13 : tie.Need-same-length-13
 same-length-13 c = search needs
 
--- src/lib.rt:84:1
 same-length-14 : tie.Need-same-length-14
 same-length-14 c = search needs
 
--- src/lib.rt:84:1
 same-length-15 : tie.Need-same-length-15
 same-length-15 c = search needs
 
--- src/lib.rt:84:1
 same-length-16 : tie.Need-same-length-16
 same-length-16 c = search needs
 
--- src/lib.rt:84:1
 same-length-17 : tie.Need-same-length-17
 same-length-17 c = search needs
 
--- src/lib.rt:84:1
 same-length-18 : tie.Need-same-length-18
 same-length-18 c = search needs
 
--- src/lib.rt:84:1
 same-length-19 : tie.Need-same-length-19
 same-length-19 c = search needs
 
--- src/lib.rt:84:1
 same-length-20 : tie.Need-same-length-20
 same-length-20 c = search needs
 
--- src/lib.rt:84:1
 same-length-21 : tie.Need-same-length-21
 same-length-21 c = search needs
 
--- src/lib.rt:84:1
 same-length-22 : tie.Need-same-length-22
 same-length-22 c = search needs
 
--- src/lib.rt:84:1
 same-length-23 : tie.Need-same-length-23
 same-length-23 c = search needs
 
--- src/lib.rt:84:1
 same-length-24 : tie.Need-same-length-24
 same-length-24 c = search needs
 
--- src/lib.rt:84:1
 returns-3 : tie.Need-returns-3
 returns-3 c = let a = c .before .before .before .before .before .before .before .before .before .before .before .before .before .before .before .before .before .before .before .before .before .before .before .before .before .before .before .before .before .before .before .before .before .before .before .before .before .before .before .before .before .before .before .before .before .before .before .before .before .before .before .before .before .before .before .before .before .before .before .before .before .args in
     let t = sheet-of (a .s .now) (a .c) in

@@ -6,59 +6,43 @@ use Prim.Native.Nat.{ℕ, _*_, _-_}
 use borrow.Author.Needs.{needs}
 use Rattle.legs.proofs.order.next_pair.Statement.{statement}
 use Rattle.legs.proofs.order.next_pair.Tie as tie
-use Rattle.legs.proofs.order.next_pair.Reads as reads
-use Rattle.legs.proofs.order.next_pair.Lts as lts
-use Rattle.pairs.proofs.next_pair.Reads as next-pair-reads
 
--- src/order.rt:20:17
 mul-first : tie.Need-mul-first
 mul-first c = search needs
 
--- src/order.rt:21:16
 mul-last : tie.Need-mul-last
 mul-last c = search needs
 
--- src/order.rt:23:9
 mul-next-pair : tie.Need-mul-next-pair
 mul-next-pair c = search needs
 
--- src/order.rt:23:9
 sub-next-pair : tie.Need-sub-next-pair
 sub-next-pair c = search needs
 
--- src/order.rt:23:9
 part-next-pair-start : tie.Need-part-next-pair-start
 part-next-pair-start c = search needs
 
--- src/order.rt:23:9
 part-next-pair-end : tie.Need-part-next-pair-end
 part-next-pair-end c = search needs
 
--- src/order.rt:25:9
 mul-next-pair-2 : tie.Need-mul-next-pair-2
 mul-next-pair-2 c = search needs
 
--- src/order.rt:25:9
 sub-next-pair-2 : tie.Need-sub-next-pair-2
 sub-next-pair-2 c = search needs
 
--- src/order.rt:25:9
 part-next-pair-start-2 : tie.Need-part-next-pair-start-2
 part-next-pair-start-2 c = search needs
 
--- src/order.rt:25:9
 part-next-pair-end-2 : tie.Need-part-next-pair-end-2
 part-next-pair-end-2 c = search needs
 
--- src/order.rt:22:5
 next-pair-requires : tie.Need-next-pair-requires
 next-pair-requires c κs = search needs
 
--- src/order.rt:15:1
 same-length : tie.Need-same-length
 same-length c = search needs
 
--- src/order.rt:15:1
 returns : tie.Need-returns
 returns c = let a = c .before .before .before .before .before .before .before .before .before .before .args in let s = a .scores .now in
     let fit : (k : ℕ) → take (length s - k) (drop k s) ≡ drop k s = λ k. take-all (length s - k) (drop k s) (omega (arith, length-drop k s)) in

@@ -1,6 +1,6 @@
-use Prim.Native.Nat.{_-_, _*_, _<_}
+use Prim.Native.Nat.{_-_, _*_}
 use lib.ListN.{getD}
-use mathlib.Core.Path.{_≡_, refl, sym, _∙_}
+use mathlib.Core.Path.{_≡_, sym, _∙_}
 use native.Mathlib.Omega.{arith}
 use borrow.Author.Needs.{needs}
 use Rattle.model.specs.Sheet.{sheet-of, road-at}
@@ -14,13 +14,6 @@ use Rattle.legs.proofs.InOrder.{firsts, in-order, Heads, ten, few, orde
 use Rattle.legs.proofs.Going.{Good, good-start, nearer, good-turn, good-end, Kept, kept-start}
 use Rattle.legs.proofs.tries.try_pairs.Statement.{statement}
 use Rattle.legs.proofs.tries.try_pairs.Tie as tie
-use Rattle.legs.proofs.tries.try_pairs.Reads as reads
-use Rattle.legs.proofs.tries.try_pairs.Lts as lts
-use Rattle.candidates.proofs.find.candidate_at.Reads as candidate-at-reads
-use Rattle.legs.proofs.order.next_pair.Reads as next-pair-reads
-use Rattle.legs.proofs.tries.next_place.Reads as next-place-reads
-use Rattle.legs.proofs.tries.try_pair.Reads as try-pair-reads
-use Rattle.rules.proofs.routes.no_best.Reads as no-best-reads
 
 abbrev Inv-loop : tie.InvT-loop
 Inv-loop s c set b starts ends ranks scores slots real₀ penalised₀ came-from₀ route₀ best-route₀ key₀ cost₀ node₀ order₀ count heads₀ st₀ t₀ real penalised came-from route best-route key cost node order heads st t =
@@ -32,51 +25,40 @@ abbrev μ-loop : tie.MeasureT-loop
 μ-loop s c set b starts ends ranks scores slots real₀ penalised₀ came-from₀ route₀ best-route₀ key₀ cost₀ node₀ order₀ count heads₀ st₀ t₀ real penalised came-from route best-route key cost node order heads st t =
     starts .count * ends .count - t
 
--- src/tries.rt:120:17
 mul-count : tie.Need-mul-count Inv-loop μ-loop
 mul-count c = let p = c .before .before .before .before .before .before .before .before .before .before .before .before .before .before .pre .0 in let a = c .before .before .before .before .before .before .before .before .before .before .before .before .before .before .args in let h = few (a .s .now) (a .c) (a .starts) (a .ends) (p .2) (p .3) in omega arith
 
--- src/tries.rt:122:9
 no-best-requires : tie.Need-no-best-requires Inv-loop μ-loop
 no-best-requires c κs = search needs
 
--- src/tries.rt:129:5
 loop-holds : tie.Need-loop-holds Inv-loop μ-loop
 loop-holds c = let p = c .before .before .before .before .before .before .before .before .before .before .before .before .before .before .before .pre .0 in let a = c .before .before .before .before .before .before .before .before .before .before .before .before .before .before .before .args in
     (kept-start _ _ _, good-start _ _ _ _ _ _ _ (c .no-best .result) _ (c .no-best .ensures), heads-start (a .s .now) (a .c) (a .starts) (a .ends) (p .2) (p .3))
 
--- src/tries.rt:130:59
 slice-aggregate-next-pair : tie.Need-slice-aggregate-next-pair Inv-loop μ-loop
 slice-aggregate-next-pair c = search needs
 
--- src/tries.rt:130:13
 next-pair-requires : tie.Need-next-pair-requires Inv-loop μ-loop
 next-pair-requires c κs = let p = c .before .before .before .before .before .before .before .before .before .before .before .before .before .before .before .before .before .before .pre .0 in let a = c .before .before .before .before .before .before .before .before .before .before .before .before .before .before .before .before .before .before .args in
     (p .7, omega (arith, p .2 .below, p .0 .sound .small .p), omega (arith, p .3 .below, p .0 .sound .small .p), ten (a .s .now) (a .c) (a .starts) (p .2), ten (a .s .now) (a .c) (a .ends) (p .3), omega (arith, c .before .before .loop .inv .2 .long), some-open (a .s .now) (a .c) (a .starts) (a .ends) (p .2) (p .3) (c .before .before .loop .t) (c .before .loop-test .taken) (c .before .before .loop .heads) (c .before .before .loop .inv .2))
 
--- src/tries.rt:131:13
 candidate-at-requires : tie.Need-candidate-at-requires Inv-loop μ-loop
 candidate-at-requires c κs = let p = c .before .before .before .before .before .before .before .before .before .before .before .before .before .before .before .before .before .before .before .before .pre .0 in (p .0, p .1, p .2, c .before .next-pair .ensures .0, p .4, p .5)
 
--- src/tries.rt:132:13
 candidate-at-requires-2 : tie.Need-candidate-at-requires-2 Inv-loop μ-loop
 candidate-at-requires-2 c κs = let p = c .before .before .before .before .before .before .before .before .before .before .before .before .before .before .before .before .before .before .before .before .before .pre .0 in (p .0, p .1, p .3, c .before .before .next-pair .ensures .1, p .4, p .6)
 
--- src/tries.rt:134:9
 try-pair-requires : tie.Need-try-pair-requires Inv-loop μ-loop
 try-pair-requires c κs = let p = c .before .before .before .before .before .before .before .before .before .before .before .before .before .before .before .before .before .before .before .before .before .before .before .before .before .before .before .before .before .before .before .before .pre in let kept = c .before .before .before .before .before .before .before .before .before .before .before .before .before .before .before .before .loop .inv .0 in
     ((p .0 .0, p .0 .1, c .before .before .before .before .before .before .before .before .before .before .before .candidate-at .ensures .1 .target, c .before .before .before .before .before .before .before .before .before .before .candidate-at2 .ensures .1 .source, c .before .before .before .before .before .before .before .before .before .before .before .before .before .before .before .before .loop .inv .1 .fits), (p .1 .0, omega (arith, kept .route, p .1 .1), omega (arith, kept .best-route, p .1 .2), sized-on (p .1 .3) (kept .sizes)))
 
--- src/tries.rt:154:9
 next-place-requires : tie.Need-next-place-requires Inv-loop μ-loop
 next-place-requires c κs = let p = c .before .before .before .before .before .before .before .before .before .before .before .before .before .before .before .before .before .before .before .before .before .before .before .before .before .before .before .before .before .before .before .before .before .before .before .before .before .before .before .before .before .before .before .before .before .before .before .before .before .before .before .pre .0 in let a = c .before .before .before .before .before .before .before .before .before .before .before .before .before .before .before .before .before .before .before .before .before .before .before .before .before .before .before .before .before .before .before .before .before .before .before .before .before .before .before .before .before .before .before .before .before .before .before .before .before .before .before .args in (c .before .before .before .before .before .before .before .before .before .before .before .before .before .before .before .before .before .before .before .before .before .before .before .before .before .before .before .before .before .before .before .before .before .before .loop-test .taken, few (a .s .now) (a .c) (a .starts) (a .ends) (p .2) (p .3))
 
--- src/tries.rt:129:5
 loop-less : tie.Need-loop-less Inv-loop μ-loop
 loop-less c = let p = c .before .before .before .before .before .before .before .before .before .before .before .before .before .before .before .before .before .before .before .before .before .before .before .before .before .before .before .before .before .before .before .before .before .before .before .before .before .before .before .before .before .before .before .before .before .before .before .before .before .before .before .before .pre .0 in let a = c .before .before .before .before .before .before .before .before .before .before .before .before .before .before .before .before .before .before .before .before .before .before .before .before .before .before .before .before .before .before .before .before .before .before .before .before .before .before .before .before .before .before .before .before .before .before .before .before .before .before .before .before .args in
     rw (c .next-place .ensures) (nearer _ _ _ (in-order (a .s .now) (a .c) (a .starts) (a .ends)) _ _ _ (order-long (a .s .now) (a .c) (a .starts) (a .ends) (p .2) (p .3)) _ _ _ (c .before .before .before .before .before .before .before .before .before .before .before .before .before .before .before .before .before .before .before .before .before .before .before .before .before .before .before .before .before .before .before .before .before .before .before .before .loop .inv .1) (c .before .before .before .before .before .before .before .before .before .before .before .before .before .before .before .before .before .before .before .before .before .before .before .before .before .before .before .before .before .before .before .before .before .before .before .loop-test .taken) _)
 
--- src/tries.rt:129:5
 loop-again : tie.Need-loop-again Inv-loop μ-loop
 loop-again c = let p = c .before .before .before .before .before .before .before .before .before .before .before .before .before .before .before .before .before .before .before .before .before .before .before .before .before .before .before .before .before .before .before .before .before .before .before .before .before .before .before .before .before .before .before .before .before .before .before .before .before .before .before .before .pre .0 in let a = c .before .before .before .before .before .before .before .before .before .before .before .before .before .before .before .before .before .before .before .before .before .before .before .before .before .before .before .before .before .before .before .before .before .before .before .before .before .before .before .before .before .before .before .before .before .before .before .before .before .before .before .before .args in let loop = c .before .before .before .before .before .before .before .before .before .before .before .before .before .before .before .before .before .before .before .before .before .before .before .before .before .before .before .before .before .before .before .before .before .before .before .before .loop in
     let s = a .s .now in let n = a .c in
@@ -90,52 +72,42 @@ loop-again c = let p = c .before .before .before .before .before .before .before
     let heads = c .before .before .before .before .before .before .before .before .before .before .before .before .before .before .before .before .before .before .before .before .before .before .before .before .before .before .before .before .before .before .before .before .before .next-pair .last .1 .1 .1 .0 in
     let ten-heads = c .before .before .before .before .before .before .before .before .before .before .before .before .before .before .before .before .before .before .before .before .before .before .before .before .before .before .before .before .before .before .before .before .before .next-pair .kept .1 .1 .1 .0 ∙ loop .inv .2 .long in
     let there = pair-there s n (a .starts) (a .ends) (p .2) (p .3) (loop .t) (c .before .before .before .before .before .before .before .before .before .before .before .before .before .before .before .before .before .before .before .before .before .before .before .before .before .before .before .before .before .before .before .before .before .before .before .loop-test .taken) (loop .heads) (loop .inv .2) (c .before .before .before .before .before .before .before .before .before .before .before .before .before .before .before .before .before .before .before .before .before .before .before .before .before .before .before .before .before .before .before .candidate-at .result) (c .before .before .before .before .before .before .before .before .before .before .before .before .before .before .before .before .before .before .before .before .before .before .before .before .before .before .before .before .before .before .candidate-at2 .result) heads ten-heads is d in (
-    record {
-    sizes = sizes-on (loop .inv .0 .sizes) record { real = k .0; penalised = k .1 .0; came = k .1 .1 .0; key = k .1 .1 .1 .1 .1 .0; cost = k .1 .1 .1 .1 .1 .1 .0; node = k .1 .1 .1 .1 .1 .1 .1 .0; order = k .1 .1 .1 .1 .1 .1 .1 .1 .0 };
-    route = k .1 .1 .1 .0 ∙ loop .inv .0 .route;
-    best-route = k .1 .1 .1 .1 .0 ∙ loop .inv .0 .best-route;
-    },
-    rw (c .next-place .ensures) (good-turn _ _ _ _ _ _ _ long _ _ _ (loop .inv .1) (c .before .before .before .before .before .before .before .before .before .before .before .before .before .before .before .before .before .before .before .before .before .before .before .before .before .before .before .before .before .before .before .before .before .before .before .loop-test .taken) _ d there (c .before .before .before .before .before .before .before .before .before .before .before .before .before .before .before .before .before .before .before .try-pair .result) next (c .before .before .before .before .before .before .before .before .before .before .before .before .before .before .before .before .before .before .before .try-pair .ensures .0) (c .before .before .before .before .before .before .before .before .before .before .before .before .before .before .before .before .before .before .before .try-pair .ensures .1)),
-    rw (c .next-place .ensures) (heads-next s n (a .starts) (a .ends) (p .2) (p .3) (loop .t) (c .before .before .before .before .before .before .before .before .before .before .before .before .before .before .before .before .before .before .before .before .before .before .before .before .before .before .before .before .before .before .before .before .before .before .before .loop-test .taken) (loop .heads) (loop .inv .2) (c .before .before .before .before .before .before .before .before .before .before .before .before .before .before .before .before .before .before .before .before .before .before .before .before .before .before .before .before .before .before .before .candidate-at .result) (c .before .before .before .before .before .before .before .before .before .before .before .before .before .before .before .before .before .before .before .before .before .before .before .before .before .before .before .before .before .before .candidate-at2 .result) heads ten-heads is (c .before .before .before .before .before .before .before .before .before .before .before .before .before .before .before .before .before .before .before .try-pair .result .phase)),
+      record {
+        sizes = sizes-on (loop .inv .0 .sizes) record { real = k .0; penalised = k .1 .0; came = k .1 .1 .0; key = k .1 .1 .1 .1 .1 .0; cost = k .1 .1 .1 .1 .1 .1 .0; node = k .1 .1 .1 .1 .1 .1 .1 .0; order = k .1 .1 .1 .1 .1 .1 .1 .1 .0 };
+        route = k .1 .1 .1 .0 ∙ loop .inv .0 .route;
+        best-route = k .1 .1 .1 .1 .0 ∙ loop .inv .0 .best-route;
+      },
+      rw (c .next-place .ensures) (good-turn _ _ _ _ _ _ _ long _ _ _ (loop .inv .1) (c .before .before .before .before .before .before .before .before .before .before .before .before .before .before .before .before .before .before .before .before .before .before .before .before .before .before .before .before .before .before .before .before .before .before .before .loop-test .taken) _ d there (c .before .before .before .before .before .before .before .before .before .before .before .before .before .before .before .before .before .before .before .try-pair .result) next (c .before .before .before .before .before .before .before .before .before .before .before .before .before .before .before .before .before .before .before .try-pair .ensures .0) (c .before .before .before .before .before .before .before .before .before .before .before .before .before .before .before .before .before .before .before .try-pair .ensures .1)),
+      rw (c .next-place .ensures) (heads-next s n (a .starts) (a .ends) (p .2) (p .3) (loop .t) (c .before .before .before .before .before .before .before .before .before .before .before .before .before .before .before .before .before .before .before .before .before .before .before .before .before .before .before .before .before .before .before .before .before .before .before .loop-test .taken) (loop .heads) (loop .inv .2) (c .before .before .before .before .before .before .before .before .before .before .before .before .before .before .before .before .before .before .before .before .before .before .before .before .before .before .before .before .before .before .before .candidate-at .result) (c .before .before .before .before .before .before .before .before .before .before .before .before .before .before .before .before .before .before .before .before .before .before .before .before .before .before .before .before .before .before .candidate-at2 .result) heads ten-heads is (c .before .before .before .before .before .before .before .before .before .before .before .before .before .before .before .before .before .before .before .try-pair .result .phase)),
     )
 
--- src/tries.rt:94:1
 same-length : tie.Need-same-length Inv-loop μ-loop
 same-length c = c .before .loop .inv .0 .sizes .real
 
--- src/tries.rt:94:1
 same-length-2 : tie.Need-same-length-2 Inv-loop μ-loop
 same-length-2 c = c .before .loop .inv .0 .sizes .penalised
 
--- src/tries.rt:94:1
 same-length-3 : tie.Need-same-length-3 Inv-loop μ-loop
 same-length-3 c = c .before .loop .inv .0 .sizes .came
 
--- src/tries.rt:94:1
 same-length-4 : tie.Need-same-length-4 Inv-loop μ-loop
 same-length-4 c = c .before .loop .inv .0 .route
 
--- src/tries.rt:94:1
 same-length-5 : tie.Need-same-length-5 Inv-loop μ-loop
 same-length-5 c = c .before .loop .inv .0 .best-route
 
--- src/tries.rt:94:1
 same-length-6 : tie.Need-same-length-6 Inv-loop μ-loop
 same-length-6 c = c .before .loop .inv .0 .sizes .key
 
--- src/tries.rt:94:1
 same-length-7 : tie.Need-same-length-7 Inv-loop μ-loop
 same-length-7 c = c .before .loop .inv .0 .sizes .cost
 
--- src/tries.rt:94:1
 same-length-8 : tie.Need-same-length-8 Inv-loop μ-loop
 same-length-8 c = c .before .loop .inv .0 .sizes .node
 
--- src/tries.rt:94:1
 same-length-9 : tie.Need-same-length-9 Inv-loop μ-loop
 same-length-9 c = c .before .loop .inv .0 .sizes .order
 
--- src/tries.rt:94:1
 returns : tie.Need-returns Inv-loop μ-loop
 returns c = let p = c .before .before .before .before .before .before .before .before .before .before .before .before .before .before .before .before .before .pre .0 in let a = c .before .before .before .before .before .before .before .before .before .before .before .before .before .before .before .before .before .args in
     let long = order-long (a .s .now) (a .c) (a .starts) (a .ends) (p .2) (p .3) in

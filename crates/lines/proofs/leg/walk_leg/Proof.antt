@@ -7,38 +7,26 @@ use Rattle.model.specs.Sheet.{sheet-of}
 use borrow.Author.Needs.{needs}
 use Rattle.lines.proofs.leg.walk_leg.Statement.{statement}
 use Rattle.lines.proofs.leg.walk_leg.Tie as tie
-use Rattle.lines.proofs.leg.walk_leg.Reads as reads
-use Rattle.lines.proofs.leg.walk_leg.Lts as lts
-use Rattle.candidates.proofs.find.shortlist_of.Reads as shortlist-of-reads
-use Rattle.legs.proofs.find_best_path.Reads as find-best-path-reads
-use Rattle.lines.proofs.leg.leave.Reads as leave-reads
-use Rattle.lines.proofs.leg.leg_limits.Reads as leg-limits-reads
 
--- src/leg.rt:106:9
 leg-limits-requires : tie.Need-leg-limits-requires
 leg-limits-requires c κs = search needs
 
--- src/leg.rt:107:9
 shortlist-of-requires : tie.Need-shortlist-of-requires
 shortlist-of-requires c κs = let p = c .before .before .before .before .before .before .before .before .before .before .before .before .before .before .before .before .pre .0 in
     let h : c .before .before .before .before .before .before .before .before .before .before .before .before .before .before .before .before .args .i < c .before .before .before .before .before .before .before .before .before .before .before .before .before .before .before .before .args .c .p = omega (arith, p .3) in
     (p .0, h, p .5, p .6 _ h)
 
--- src/leg.rt:108:16
 add-next : tie.Need-add-next
 add-next c = omega (arith, c .before .before .before .before .before .before .before .before .before .before .before .before .before .before .before .before .before .pre .0 .3, c .before .before .before .before .before .before .before .before .before .before .before .before .before .before .before .before .before .pre .0 .0 .sound .small .p)
 
--- src/leg.rt:109:9
 shortlist-of-requires-2 : tie.Need-shortlist-of-requires-2
 shortlist-of-requires-2 c κs = let p = c .before .before .before .before .before .before .before .before .before .before .before .before .before .before .before .before .before .pre .0 in
     (p .0, p .3, p .5, p .6 _ (p .3))
 
--- src/leg.rt:110:9
 find-best-path-requires : tie.Need-find-best-path-requires
 find-best-path-requires c κs = let p = c .before .before .before .before .before .before .before .before .before .before .before .before .before .before .before .before .before .before .before .before .before .before .before .before .before .before .before .pre in let a = c .before .before .before .before .before .before .before .before .before .before .shortlist-of .ensures .1 in let b = c .before .before .before .before .before .before .before .before .before .shortlist-of2 .ensures .1 in
     ((p .0 .0, p .0 .1, p .0 .2, a, b, p .0 .5, p .0 .6 _ (a .below), p .0 .6 _ (b .below), p .0 .7, p .0 .8 _ (a .below), p .0 .8 _ (b .below)), p .1 .1)
 
--- src/leg.rt:130:5
 leave-requires : tie.Need-leave-requires
 leave-requires c κs = let a = c .before .before .before .before .before .before .before .before .before .before .before .before .before .before .before .before .before .before .before .before .before .before .before .before .before .before .before .before .before .before .before .before .before .before .before .before .before .before .before .before .before .before .before .before .before .before .before .before .before .before .args in
     let p = c .before .before .before .before .before .before .before .before .before .before .before .before .before .before .before .before .before .before .before .before .before .before .before .before .before .before .before .before .before .before .before .before .before .before .before .before .before .before .before .before .before .before .before .before .before .before .before .before .before .before .pre in
@@ -46,55 +34,42 @@ leave-requires c κs = let a = c .before .before .before .before .before .before
     let is = f .ensures .0 ∙ sought-is (sheet-of (a .s .now) (a .c)) (a .slots) (a .i) (c .before .before .before .before .before .before .before .before .before .before .before .before .before .before .before .before .before .before .before .before .before .before .before .before .before .before .before .before .before .before .before .before .before .before .leg-limits .ensures) (c .before .before .before .before .before .before .before .before .before .before .before .before .before .before .before .before .before .before .before .before .before .before .before .before .before .before .before .before .before .before .before .before .before .shortlist-of .ensures .0) (c .before .before .before .before .before .before .before .before .before .before .before .before .before .before .before .before .before .before .before .before .before .before .before .before .before .before .before .before .before .before .before .before .shortlist-of2 .ensures .0) in
     ((p .0 .0, leg-known (a .s .now) (a .c) (p .0 .0) (a .slots) (a .i) (p .0 .3) (f .result) (f .last .1 .1 .1 .1 .1 .1 .1 .1 .1 .1 .1 .1 .1 .0) is (f .ensures .1) (omega (arith, p .1 .1 .2, f .kept .1 .1 .1 .1 .1 .1 .1 .1 .1 .1 .1 .1 .1 .0)), p .0 .4), p .1 .0)
 
--- src/leg.rt:76:1
 same-length : tie.Need-same-length
 same-length c = search needs
 
--- src/leg.rt:76:1
 same-length-2 : tie.Need-same-length-2
 same-length-2 c = search needs
 
--- src/leg.rt:76:1
 same-length-3 : tie.Need-same-length-3
 same-length-3 c = search needs
 
--- src/leg.rt:76:1
 same-length-4 : tie.Need-same-length-4
 same-length-4 c = search needs
 
--- src/leg.rt:76:1
 same-length-5 : tie.Need-same-length-5
 same-length-5 c = search needs
 
--- src/leg.rt:76:1
 same-length-6 : tie.Need-same-length-6
 same-length-6 c = search needs
 
--- src/leg.rt:76:1
 same-length-7 : tie.Need-same-length-7
 same-length-7 c = search needs
 
--- src/leg.rt:76:1
 same-length-8 : tie.Need-same-length-8
 same-length-8 c = search needs
 
--- src/leg.rt:76:1
 same-length-9 : tie.Need-same-length-9
 same-length-9 c = search needs
 
--- src/leg.rt:76:1
 same-length-10 : tie.Need-same-length-10
 same-length-10 c = search needs
 
--- src/leg.rt:76:1
 same-length-11 : tie.Need-same-length-11
 same-length-11 c = search needs
 
--- src/leg.rt:76:1
 same-length-12 : tie.Need-same-length-12
 same-length-12 c = search needs
 
--- src/leg.rt:76:1
 returns : tie.Need-returns
 returns c = let a = c .before .before .before .before .before .before .before .before .before .before .before .before .before .before .before .before .before .before .before .before .before .before .before .before .before .before .before .before .before .before .before .before .before .before .before .before .before .before .before .before .before .before .before .before .before .before .before .before .before .before .before .before .before .before .before .before .before .args in
     let f = c .before .before .before .before .before .before .before .before .before .before .before .before .before .before .before .before .before .before .before .before .before .before .before .before .before .before .before .before .before .find-best-path in

@@ -9,12 +9,6 @@ use Prim.Native.Nat.{_-_, _≤_}
 use Rattle.lines.proofs.Going.{tail-split, tail-long, Going, going-start, stands-now, room, nearer, going-on, going-end, short-leg, few-entries}
 use Rattle.lines.proofs.runs.decode_line.Statement.{statement}
 use Rattle.lines.proofs.runs.decode_line.Tie as tie
-use Rattle.lines.proofs.runs.decode_line.Reads as reads
-use Rattle.lines.proofs.runs.decode_line.Lts as lts
-use Rattle.courses.proofs.path.last_written.Reads as last-written-reads
-use Rattle.lines.proofs.leg.walk_leg.Reads as walk-leg-reads
-use Rattle.lines.proofs.steps.advance.Reads as advance-reads
-use Rattle.lines.proofs.steps.begin.Reads as begin-reads
 
 abbrev Inv-loop : tie.InvT-loop
 Inv-loop s c set ranks scores slots real₀ penalised₀ came-from₀ route₀ best-route₀ key₀ cost₀ node₀ order₀ covered₀ coverage₀ ids₀ points run₀ real penalised came-from route best-route key cost node order covered coverage ids run =
@@ -25,50 +19,41 @@ abbrev μ-loop : tie.MeasureT-loop
 μ-loop s c set ranks scores slots real₀ penalised₀ came-from₀ route₀ best-route₀ key₀ cost₀ node₀ order₀ covered₀ coverage₀ ids₀ points run₀ real penalised came-from route best-route key cost node order covered coverage ids run =
     points - run .next
 
--- src/runs.rt:46:9
 begin-requires : tie.Need-begin-requires Inv-loop μ-loop
 begin-requires c κs = search needs
 
--- src/runs.rt:47:5
 loop-holds : tie.Need-loop-holds Inv-loop μ-loop
 loop-holds c = (kept-start _ _ _, refl, refl, refl, subst (Going _ _ _ _ _ _) (sym (c .begin .ensures)) (going-start _ _ _ _ _ _))
 
--- src/runs.rt:47:11
 add-if1 : tie.Need-add-if1 Inv-loop μ-loop
 add-if1 c = omega (arith, c .before .loop .inv .4 .in-range, c .before .before .before .before .before .before .before .before .before .before .before .before .before .before .before .before .before .before .pre .0 .0 .sound .small .p)
 
--- src/runs.rt:50:13
 last-written-requires : tie.Need-last-written-requires Inv-loop μ-loop
 last-written-requires c κs = let a = c .before .before .before .loop in
     let now = stands-now _ _ _ (a .inv .4) (c .before .if1 .taken) in
     omega (arith, room _ _ _ (a .inv .4) (c .before .if1 .taken) _ (now .2 .few-roads), a .inv .3, c .before .before .before .before .before .before .before .before .before .before .before .before .before .before .before .before .before .before .before .before .pre .1 .0 .2)
 
--- src/runs.rt:73:13
 mul-walk-leg : tie.Need-mul-walk-leg Inv-loop μ-loop
 mul-walk-leg c = let a = c .before .before .before .before .before .before .before .before .before .before .before .before .before .before .before .loop in
     let now = stands-now _ _ _ (a .inv .4) (c .before .before .before .before .before .before .before .before .before .before .before .before .before .if1 .taken) in
     let w = c .before .before .before .before .before .before .before .before .before .before .before .before .before .before .before .before .before .before .before .before .before .before .before .before .before .before .before .before .before .before .before .before .pre .0 .0 in
     omega (arith, room _ _ _ (a .inv .4) (c .before .before .before .before .before .before .before .before .before .before .before .before .before .if1 .taken) _ (now .2 .few-roads), few-entries (c .before .before .before .before .before .before .before .before .before .before .before .before .before .before .before .before .before .before .before .before .before .before .before .before .before .before .before .before .before .before .before .before .args .s .now) (c .before .before .before .before .before .before .before .before .before .before .before .before .before .before .before .before .before .before .before .before .before .before .before .before .before .before .before .before .before .before .before .before .args .c) (c .before .before .before .before .before .before .before .before .before .before .before .before .before .before .before .before .before .before .before .before .before .before .before .before .before .before .before .before .before .before .before .before .args .slots) (w .sound .small .p) (w .sound .small .n))
 
--- src/runs.rt:73:13
 sub-walk-leg : tie.Need-sub-walk-leg Inv-loop μ-loop
 sub-walk-leg c = let a = c .before .before .before .before .before .before .before .before .before .before .before .before .before .before .before .loop in
     let now = stands-now _ _ _ (a .inv .4) (c .before .before .before .before .before .before .before .before .before .before .before .before .before .if1 .taken) in
     omega (arith, room _ _ _ (a .inv .4) (c .before .before .before .before .before .before .before .before .before .before .before .before .before .if1 .taken) _ (now .2 .few-roads), a .inv .3, c .before .before .before .before .before .before .before .before .before .before .before .before .before .before .before .before .before .before .before .before .before .before .before .before .before .before .before .before .before .before .before .before .pre .1 .0 .2)
 
--- src/runs.rt:73:13
 part-walk-leg-start : tie.Need-part-walk-leg-start Inv-loop μ-loop
 part-walk-leg-start c = let a = c .before .before .before .before .before .before .before .before .before .before .before .before .before .before .before .loop in
     let now = stands-now _ _ _ (a .inv .4) (c .before .before .before .before .before .before .before .before .before .before .before .before .before .if1 .taken) in
     omega (arith, room _ _ _ (a .inv .4) (c .before .before .before .before .before .before .before .before .before .before .before .before .before .if1 .taken) _ (now .2 .few-roads), a .inv .3, c .before .before .before .before .before .before .before .before .before .before .before .before .before .before .before .before .before .before .before .before .before .before .before .before .before .before .before .before .before .before .before .before .pre .1 .0 .2)
 
--- src/runs.rt:73:13
 part-walk-leg-end : tie.Need-part-walk-leg-end Inv-loop μ-loop
 part-walk-leg-end c = let a = c .before .before .before .before .before .before .before .before .before .before .before .before .before .before .before .loop in
     let now = stands-now _ _ _ (a .inv .4) (c .before .before .before .before .before .before .before .before .before .before .before .before .before .if1 .taken) in
     omega (arith, room _ _ _ (a .inv .4) (c .before .before .before .before .before .before .before .before .before .before .before .before .before .if1 .taken) _ (now .2 .few-roads), a .inv .3, c .before .before .before .before .before .before .before .before .before .before .before .before .before .before .before .before .before .before .before .before .before .before .before .before .before .before .before .before .before .before .before .before .pre .1 .0 .2)
 
--- src/runs.rt:51:13
 walk-leg-requires : tie.Need-walk-leg-requires Inv-loop μ-loop
 walk-leg-requires c κs = let a = c .before .before .before .before .before .before .before .before .before .before .before .before .before .before .before .before .loop in
     let p = c .before .before .before .before .before .before .before .before .before .before .before .before .before .before .before .before .before .before .before .before .before .before .before .before .before .before .before .before .before .before .before .before .before .pre in
@@ -77,14 +62,13 @@ walk-leg-requires c κs = let a = c .before .before .before .before .before .bef
     let covers = room _ _ _ (a .inv .4) (c .before .before .before .before .before .before .before .before .before .before .before .before .before .before .if1 .taken) _ (now .2 .few-coverages) in
     let kept = a .inv .0 in
     let long = tail-long (a .ids) (a .run .course .written) (omega (arith, roads, a .inv .3, p .1 .0 .2)) in (
-    (p .0 .0, p .0 .1, p .0 .2, c .before .before .before .before .before .before .before .before .before .before .before .before .before .before .if1 .taken, now .2 .below, p .0 .3, p .0 .4, p .0 .5, p .0 .6),
-    (
-    (omega (arith, covers, a .inv .1, p .1 .0 .0), omega (arith, covers, a .inv .2, p .1 .0 .1), omega (arith, roads, a .inv .3, p .1 .0 .2, long)),
-    (p .1 .1 .0, omega (arith, kept .route, p .1 .1 .1), omega (arith, kept .best-route, p .1 .1 .2), sized-on (p .1 .1 .3) (kept .sizes)),
-    ),
+      (p .0 .0, p .0 .1, p .0 .2, c .before .before .before .before .before .before .before .before .before .before .before .before .before .before .if1 .taken, now .2 .below, p .0 .3, p .0 .4, p .0 .5, p .0 .6),
+      (
+        (omega (arith, covers, a .inv .1, p .1 .0 .0), omega (arith, covers, a .inv .2, p .1 .0 .1), omega (arith, roads, a .inv .3, p .1 .0 .2, long)),
+        (p .1 .1 .0, omega (arith, kept .route, p .1 .1 .1), omega (arith, kept .best-route, p .1 .1 .2), sized-on (p .1 .1 .3) (kept .sizes)),
+      ),
     )
 
--- src/runs.rt:75:9
 advance-requires : tie.Need-advance-requires Inv-loop μ-loop
 advance-requires c κs = let a = c .before .before .before .before .before .before .before .before .before .before .before .before .before .before .before .before .before .before .before .before .before .before .before .before .before .before .before .before .before .before .before .before .before .before .before .before .before .before .before .before .before .loop in
     let w = c .before .before .before .before .before .before .before .before .before .before .before .before .before .before .before .before .before .before .before .before .before .before .before .before .before .before .before .before .before .before .before .before .before .before .before .before .before .before .before .before .before .before .before .before .before .before .before .before .before .before .before .before .before .before .before .before .before .before .pre .0 .0 in
@@ -92,11 +76,9 @@ advance-requires c κs = let a = c .before .before .before .before .before .befo
     let few = few-entries (c .before .before .before .before .before .before .before .before .before .before .before .before .before .before .before .before .before .before .before .before .before .before .before .before .before .before .before .before .before .before .before .before .before .before .before .before .before .before .before .before .before .before .before .before .before .before .before .before .before .before .before .before .before .before .before .before .before .before .args .s .now) (c .before .before .before .before .before .before .before .before .before .before .before .before .before .before .before .before .before .before .before .before .before .before .before .before .before .before .before .before .before .before .before .before .before .before .before .before .before .before .before .before .before .before .before .before .before .before .before .before .before .before .before .before .before .before .before .before .before .before .args .c) (c .before .before .before .before .before .before .before .before .before .before .before .before .before .before .before .before .before .before .before .before .before .before .before .before .before .before .before .before .before .before .before .before .before .before .before .before .before .before .before .before .before .before .before .before .before .before .before .before .before .before .before .before .before .before .before .before .before .before .args .slots) (w .sound .small .p) (w .sound .small .n) in
     (omega (arith, a .inv .4 .in-range, w .sound .small .p), omega (arith, room _ _ _ (a .inv .4) (c .before .before .before .before .before .before .before .before .before .before .before .before .before .before .before .before .before .before .before .before .before .before .before .before .before .before .before .before .before .before .before .before .before .before .before .before .before .before .before .if1 .taken) _ (now .2 .few-roads), few), short-leg _ _ (c .before .before .before .before .before .before .before .before .before .before .before .before .before .before .before .before .before .before .before .before .before .before .before .before .before .before .before .before .before .before .before .before .before .before .before .before .before .before .before .before .before .before .before .before .before .before .before .before .before .before .before .before .before .before .before .before .before .before .args .slots) (w .sound .small .n) _ _ _ _ _ _ _ _ _ (c .before .before .before .before .before .before .before .before .before .before .before .before .before .before .before .before .before .before .before .before .before .before .before .before .walk-leg .result) (c .before .before .before .before .before .before .before .before .before .before .before .before .before .before .before .before .before .before .before .before .before .before .before .before .walk-leg .ensures))
 
--- src/runs.rt:47:5
 loop-less : tie.Need-loop-less Inv-loop μ-loop
 loop-less c = rw (c .advance .ensures) (nearer _ _ _ (c .before .before .before .before .before .before .before .before .before .before .before .before .before .before .before .before .before .before .before .before .before .before .before .before .before .before .before .before .before .before .before .before .before .before .before .before .before .before .before .before .before .before .loop .inv .4) (c .before .before .before .before .before .before .before .before .before .before .before .before .before .before .before .before .before .before .before .before .before .before .before .before .before .before .before .before .before .before .before .before .before .before .before .before .before .before .before .before .if1 .taken) (c .before .before .before .before .before .before .before .before .before .before .before .before .before .before .before .before .before .before .before .before .before .before .before .before .before .walk-leg .result))
 
--- src/runs.rt:47:5
 loop-again : tie.Need-loop-again Inv-loop μ-loop
 loop-again c = let a = c .before .before .before .before .before .before .before .before .before .before .before .before .before .before .before .before .before .before .before .before .before .before .before .before .before .before .before .before .before .before .before .before .before .before .before .before .before .before .before .before .before .before .loop in
     let p = c .before .before .before .before .before .before .before .before .before .before .before .before .before .before .before .before .before .before .before .before .before .before .before .before .before .before .before .before .before .before .before .before .before .before .before .before .before .before .before .before .before .before .before .before .before .before .before .before .before .before .before .before .before .before .before .before .before .before .before .pre in
@@ -108,66 +90,53 @@ loop-again c = let a = c .before .before .before .before .before .before .before
     let fits : at ≤ length (a .ids) = omega (arith, roads, a .inv .3, p .1 .0 .2) in
     let long = k .1 .1 .1 .1 .1 .1 .1 .1 .1 .1 .1 .0 ∙ tail-long (a .ids) at fits in
     let out = l .1 .1 .1 .1 .1 .1 .1 .1 .1 .1 .1 .0 in (
-    record {
-    sizes = sizes-on (a .inv .0 .sizes) record { real = k .0; penalised = k .1 .0; came = k .1 .1 .0; key = k .1 .1 .1 .1 .1 .0; cost = k .1 .1 .1 .1 .1 .1 .0; node = k .1 .1 .1 .1 .1 .1 .1 .0; order = k .1 .1 .1 .1 .1 .1 .1 .1 .0 };
-    route = k .1 .1 .1 .0 ∙ a .inv .0 .route;
-    best-route = k .1 .1 .1 .1 .0 ∙ a .inv .0 .best-route;
-    },
-    k .1 .1 .1 .1 .1 .1 .1 .1 .1 .0 ∙ a .inv .1,
-    k .1 .1 .1 .1 .1 .1 .1 .1 .1 .1 .0 ∙ a .inv .2,
-    c .before .before .ids .given .1 ∙ a .inv .3,
-    rw (c .advance .ensures) (going-on _ _ _ (a .inv .4) (c .before .before .before .before .before .before .before .before .before .before .before .before .before .before .before .before .before .before .before .before .before .before .before .before .before .before .before .before .before .before .before .before .before .before .before .before .before .before .before .before .if1 .taken) _ out _ _ (λ m h. tail-split (a .ids) out _ at m fits (omega (arith, roads, a .inv .3, p .1 .0 .2, long))) (c .before .before .before .before .before .before .before .before .before .before .before .before .before .before .before .before .before .before .before .before .before .before .before .before .before .walk-leg .result) (rw (c .before .before .before .before .before .before .before .before .before .before .before .before .before .before .before .before .before .before .before .before .before .before .before .before .before .before .before .before .before .before .before .before .before .before .before .before .before .before .last-written .ensures) at (c .before .before .before .before .before .before .before .before .before .before .before .before .before .before .before .before .before .before .before .before .before .before .before .before .before .walk-leg .ensures))),
+      record {
+        sizes = sizes-on (a .inv .0 .sizes) record { real = k .0; penalised = k .1 .0; came = k .1 .1 .0; key = k .1 .1 .1 .1 .1 .0; cost = k .1 .1 .1 .1 .1 .1 .0; node = k .1 .1 .1 .1 .1 .1 .1 .0; order = k .1 .1 .1 .1 .1 .1 .1 .1 .0 };
+        route = k .1 .1 .1 .0 ∙ a .inv .0 .route;
+        best-route = k .1 .1 .1 .1 .0 ∙ a .inv .0 .best-route;
+      },
+      k .1 .1 .1 .1 .1 .1 .1 .1 .1 .0 ∙ a .inv .1,
+      k .1 .1 .1 .1 .1 .1 .1 .1 .1 .1 .0 ∙ a .inv .2,
+      c .before .before .ids .given .1 ∙ a .inv .3,
+      rw (c .advance .ensures) (going-on _ _ _ (a .inv .4) (c .before .before .before .before .before .before .before .before .before .before .before .before .before .before .before .before .before .before .before .before .before .before .before .before .before .before .before .before .before .before .before .before .before .before .before .before .before .before .before .before .if1 .taken) _ out _ _ (λ m h. tail-split (a .ids) out _ at m fits (omega (arith, roads, a .inv .3, p .1 .0 .2, long))) (c .before .before .before .before .before .before .before .before .before .before .before .before .before .before .before .before .before .before .before .before .before .before .before .before .before .walk-leg .result) (rw (c .before .before .before .before .before .before .before .before .before .before .before .before .before .before .before .before .before .before .before .before .before .before .before .before .before .before .before .before .before .before .before .before .before .before .before .before .before .before .last-written .ensures) at (c .before .before .before .before .before .before .before .before .before .before .before .before .before .before .before .before .before .before .before .before .before .before .before .before .before .walk-leg .ensures))),
     )
 
--- src/runs.rt:20:1
 same-length : tie.Need-same-length Inv-loop μ-loop
 same-length c = c .before .before .loop .inv .0 .sizes .real
 
--- src/runs.rt:20:1
 same-length-2 : tie.Need-same-length-2 Inv-loop μ-loop
 same-length-2 c = c .before .before .loop .inv .0 .sizes .penalised
 
--- src/runs.rt:20:1
 same-length-3 : tie.Need-same-length-3 Inv-loop μ-loop
 same-length-3 c = c .before .before .loop .inv .0 .sizes .came
 
--- src/runs.rt:20:1
 same-length-4 : tie.Need-same-length-4 Inv-loop μ-loop
 same-length-4 c = c .before .before .loop .inv .0 .route
 
--- src/runs.rt:20:1
 same-length-5 : tie.Need-same-length-5 Inv-loop μ-loop
 same-length-5 c = c .before .before .loop .inv .0 .best-route
 
--- src/runs.rt:20:1
 same-length-6 : tie.Need-same-length-6 Inv-loop μ-loop
 same-length-6 c = c .before .before .loop .inv .0 .sizes .key
 
--- src/runs.rt:20:1
 same-length-7 : tie.Need-same-length-7 Inv-loop μ-loop
 same-length-7 c = c .before .before .loop .inv .0 .sizes .cost
 
--- src/runs.rt:20:1
 same-length-8 : tie.Need-same-length-8 Inv-loop μ-loop
 same-length-8 c = c .before .before .loop .inv .0 .sizes .node
 
--- src/runs.rt:20:1
 same-length-9 : tie.Need-same-length-9 Inv-loop μ-loop
 same-length-9 c = c .before .before .loop .inv .0 .sizes .order
 
--- src/runs.rt:20:1
 same-length-10 : tie.Need-same-length-10 Inv-loop μ-loop
 same-length-10 c = c .before .before .loop .inv .1
 
--- src/runs.rt:20:1
 same-length-11 : tie.Need-same-length-11 Inv-loop μ-loop
 same-length-11 c = c .before .before .loop .inv .2
 
--- src/runs.rt:20:1
 same-length-12 : tie.Need-same-length-12 Inv-loop μ-loop
 same-length-12 c = c .before .before .loop .inv .3
 
--- src/runs.rt:20:1
 returns : tie.Need-returns Inv-loop μ-loop
 returns c = going-end _ _ _ (c .before .before .loop .inv .4) (omega (arith, c .if1 .left))
 

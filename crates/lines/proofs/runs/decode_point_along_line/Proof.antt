@@ -5,76 +5,55 @@ use Rattle.courses.specs.Left.{last-of, coverages-at}
 use borrow.Author.Needs.{needs}
 use Rattle.lines.proofs.runs.decode_point_along_line.Statement.{statement}
 use Rattle.lines.proofs.runs.decode_point_along_line.Tie as tie
-use Rattle.lines.proofs.runs.decode_point_along_line.Reads as reads
-use Rattle.lines.proofs.runs.decode_point_along_line.Lts as lts
-use Rattle.lines.proofs.leg.walk_leg.Reads as walk-leg-reads
-use Rattle.lines.proofs.steps.alone.Reads as alone-reads
-use Rattle.lines.proofs.steps.begin.Reads as begin-reads
 
--- src/runs.rt:106:9
 begin-requires : tie.Need-begin-requires
 begin-requires c κs = search needs
 
--- src/runs.rt:107:9
 walk-leg-requires : tie.Need-walk-leg-requires
 walk-leg-requires c κs = let a = c .before .before .before .before .before .before .before .before .before .before .before .before .before .before .before .before .before .before .before .before .before .before .before .before .before .before .before .before .args in
     let p = c .before .before .before .before .before .before .before .before .before .before .before .before .before .before .before .before .before .before .before .before .before .before .before .before .before .before .before .before .pre in
     let r = room-first (a .s .now) (a .c) (a .slots) in
     ((p .0 .0, p .0 .1, p .0 .2, omega (arith, p .0 .3), λ j h. absurd (omega arith), p .0 .4, p .0 .5, p .0 .6, p .0 .7), ((omega (arith, r, p .1 .0 .0), omega (arith, r, p .1 .0 .1), omega (arith, r, p .1 .0 .2)), p .1 .1))
 
--- src/runs.rt:131:5
 alone-requires : tie.Need-alone-requires
 alone-requires c κs = search needs
 
--- src/runs.rt:81:1
 same-length : tie.Need-same-length
 same-length c = search needs
 
--- src/runs.rt:81:1
 same-length-2 : tie.Need-same-length-2
 same-length-2 c = search needs
 
--- src/runs.rt:81:1
 same-length-3 : tie.Need-same-length-3
 same-length-3 c = search needs
 
--- src/runs.rt:81:1
 same-length-4 : tie.Need-same-length-4
 same-length-4 c = search needs
 
--- src/runs.rt:81:1
 same-length-5 : tie.Need-same-length-5
 same-length-5 c = search needs
 
--- src/runs.rt:81:1
 same-length-6 : tie.Need-same-length-6
 same-length-6 c = search needs
 
--- src/runs.rt:81:1
 same-length-7 : tie.Need-same-length-7
 same-length-7 c = search needs
 
--- src/runs.rt:81:1
 same-length-8 : tie.Need-same-length-8
 same-length-8 c = search needs
 
--- src/runs.rt:81:1
 same-length-9 : tie.Need-same-length-9
 same-length-9 c = search needs
 
--- src/runs.rt:81:1
 same-length-10 : tie.Need-same-length-10
 same-length-10 c = search needs
 
--- src/runs.rt:81:1
 same-length-11 : tie.Need-same-length-11
 same-length-11 c = search needs
 
--- src/runs.rt:81:1
 same-length-12 : tie.Need-same-length-12
 same-length-12 c = search needs
 
--- src/runs.rt:81:1
 returns : tie.Need-returns
 unfolding last-of coverages-at tab
 returns c = let a = c .before .before .before .before .before .before .before .before .before .before .before .before .before .before .before .before .before .before .before .before .before .before .before .before .before .before .before .before .before .before .before .before .before .before .before .before .before .before .before .before .before .before .before .before .before .before .before .before .before .before .before .before .before .before .args in

@@ -15,11 +15,6 @@ use native.Mathlib.Omega.{arith}
 use Prim.Native.Nat.{ℕ, _≤_, _<_, _-_}
 use Rattle.rules.proofs.same_edge.take_ends.Statement.{statement}
 use Rattle.rules.proofs.same_edge.take_ends.Tie as tie
-use Rattle.rules.proofs.same_edge.take_ends.Reads as reads
-use Rattle.rules.proofs.same_edge.take_ends.Lts as lts
-use Rattle.candidates.proofs.find.candidate_at.Reads as candidate-at-reads
-use Rattle.candidates.proofs.find.road_at.Reads as road-at-reads
-use Rattle.rules.proofs.same_edge.take_close.Reads as take-close-reads
 
 abbrev Inv-loop : tie.InvT-loop
 Inv-loop s c set b starts i ends ranks road best₀ j₀ best j =
@@ -29,40 +24,31 @@ abbrev μ-loop : tie.MeasureT-loop
 μ-loop s c set b starts i ends ranks road best₀ j₀ best j =
     ends .count - j
 
--- src/same_edge.rt:66:9
 road-at-requires : tie.Need-road-at-requires Inv-loop μ-loop
 road-at-requires c κs = let p = c .before .before .pre in (p .0, p .2, p .4, p .5, p .6)
 
--- src/same_edge.rt:69:5
 loop-holds : tie.Need-loop-holds Inv-loop μ-loop
 unfolding fold
 loop-holds c = (omega arith, λ roads area. refl)
 
--- src/same_edge.rt:70:12
 road-at-requires-2 : tie.Need-road-at-requires-2 Inv-loop μ-loop
 road-at-requires-2 c κs = let p = c .before .before .before .before .before .before .pre in (p .0, p .3, c .if1 .taken, p .5, p .7)
 
--- src/same_edge.rt:71:17
 candidate-at-requires : tie.Need-candidate-at-requires Inv-loop μ-loop
 candidate-at-requires c κs = let p = c .before .before .before .before .before .before .before .before .pre in (p .0, p .1, p .2, p .4, p .5, p .6)
 
--- src/same_edge.rt:72:17
 candidate-at-requires-2 : tie.Need-candidate-at-requires-2 Inv-loop μ-loop
 candidate-at-requires-2 c κs = let p = c .before .before .before .before .before .before .before .before .before .pre in (p .0, p .1, p .3, c .before .before .before .if1 .taken, p .5, p .7)
 
--- src/same_edge.rt:73:13
 take-close-requires : tie.Need-take-close-requires Inv-loop μ-loop
 take-close-requires c κs = search needs
 
--- src/same_edge.rt:75:9
 add-j : tie.Need-add-j Inv-loop μ-loop
 add-j c = omega (arith, c .before .before .before .before .before .before .before .before .pre .3 .count, c .before .before .if1 .taken)
 
--- src/same_edge.rt:69:5
 loop-less : tie.Need-loop-less Inv-loop μ-loop
 loop-less c = omega (arith, c .before .before .if1 .taken)
 
--- src/same_edge.rt:69:5
 loop-again : tie.Need-loop-again Inv-loop μ-loop
 loop-again c = let a = c .before .before .before .before .before .before .before .before .args in let p = c .before .before .before .before .before .before .before .before .pre in
     let xs = candidates-at (sheet-of (a .s .now) (a .c)) (a .ends .number) in
@@ -70,18 +56,17 @@ loop-again c = let a = c .before .before .before .before .before .before .before
     let j = c .before .before .before .before .loop .j in
     let l : j < length (take 10 xs) = omega (arith, c .before .before .if1 .taken, ten-long xs (a .ends .count) (p .3 .count)) in
     let at = ten-at xs (a .ends .count) (p .3 .count) j (c .before .before .if1 .taken) in (
-    omega (arith, c .before .before .if1 .taken),
-    ⊎-elim
-    (λ w. let e : c .if2 .best ≡ w .3 .result = w .4 in
-    let s : w .1 .result ≡ x = w .1 .ensures .0 in
-    let y : w .2 .result ≡ getD (take 10 xs) j no-candidate = w .2 .ensures .0 ∙ at in
-    λ roads area. ap (λ (r : Best). best-of roads r area) e ∙ w .3 .ensures roads area ∙ rw (s, y) (end-taken (a .b) x (take 10 xs) (best-of roads (a .before) area) j l (best-of roads (c .before .before .before .before .loop .best) area) (c .before .before .before .before .loop .inv .1 roads area)))
-    (λ w. let e : c .if2 .best ≡ c .before .before .before .before .loop .best = w .1 in
-    λ roads area. ap (λ (r : Best). best-of roads r area) e ∙ end-apart (a .b) x (take 10 xs) (best-of roads (a .before) area) j l (best-of roads (c .before .before .before .before .loop .best) area) (c .before .before .before .before .loop .inv .1 roads area) (λ q. w .0 .left (c .before .road-at2 .ensures ∙ rw at q ∙ sym (c .before .before .before .before .before .road-at .ensures))))
-    (c .if2 .came),
+      omega (arith, c .before .before .if1 .taken),
+      ⊎-elim
+          (λ w. let e : c .if2 .best ≡ w .3 .result = w .4 in
+          let s : w .1 .result ≡ x = w .1 .ensures .0 in
+          let y : w .2 .result ≡ getD (take 10 xs) j no-candidate = w .2 .ensures .0 ∙ at in
+          λ roads area. ap (λ (r : Best). best-of roads r area) e ∙ w .3 .ensures roads area ∙ rw (s, y) (end-taken (a .b) x (take 10 xs) (best-of roads (a .before) area) j l (best-of roads (c .before .before .before .before .loop .best) area) (c .before .before .before .before .loop .inv .1 roads area)))
+          (λ w. let e : c .if2 .best ≡ c .before .before .before .before .loop .best = w .1 in
+          λ roads area. ap (λ (r : Best). best-of roads r area) e ∙ end-apart (a .b) x (take 10 xs) (best-of roads (a .before) area) j l (best-of roads (c .before .before .before .before .loop .best) area) (c .before .before .before .before .loop .inv .1 roads area) (λ q. w .0 .left (c .before .road-at2 .ensures ∙ rw at q ∙ sym (c .before .before .before .before .before .road-at .ensures))))
+          (c .if2 .came),
     )
 
--- src/same_edge.rt:52:1
 returns : tie.Need-returns Inv-loop μ-loop
 returns c = let a = c .before .before .before .before .before .before .args in let p = c .before .before .before .before .before .before .pre in
     let xs = candidates-at (sheet-of (a .s .now) (a .c)) (a .ends .number) in

@@ -1,22 +1,17 @@
 use Rattle.rules.proofs.OneRoad.{starts-none, start-more, starts-done, ten-long, ten-at}
 use Rattle.rules.specs.Code.{best-of, Stands}
-use Rattle.candidates.specs.Found.{candidates-at, no-candidate}
+use Rattle.candidates.specs.Found.{candidates-at}
 use Rattle.model.specs.Sheet.{sheet-of}
-use Rattle.model.specs.Legs.{pair, pairs, take-close}
+use Rattle.model.specs.Legs.{pairs, take-close}
 use Rattle.model.specs.Lists.{fold}
-use lib.ListN.{length, take, getD}
-use mathlib.Core.List.{List, map}
+use lib.ListN.{take}
 use mathlib.Core.Option.{none}
-use mathlib.Core.Path.{_≡_, refl, sym, ap, _∙_}
+use mathlib.Core.Path.{_∙_}
 use borrow.Author.Needs.{needs}
 use native.Mathlib.Omega.{arith}
-use Prim.Native.Nat.{ℕ, _≤_, _<_, _-_}
+use Prim.Native.Nat.{_≤_, _-_}
 use Rattle.rules.proofs.same_edge.try_same_edge_solution.Statement.{statement}
 use Rattle.rules.proofs.same_edge.try_same_edge_solution.Tie as tie
-use Rattle.rules.proofs.same_edge.try_same_edge_solution.Reads as reads
-use Rattle.rules.proofs.same_edge.try_same_edge_solution.Lts as lts
-use Rattle.rules.proofs.routes.no_best.Reads as no-best-reads
-use Rattle.rules.proofs.same_edge.take_ends.Reads as take-ends-reads
 
 abbrev Inv-loop : tie.InvT-loop
 Inv-loop s c set b starts ends ranks best₀ i₀ best i =
@@ -26,38 +21,31 @@ abbrev μ-loop : tie.MeasureT-loop
 μ-loop s c set b starts ends ranks best₀ i₀ best i =
     starts .count - i
 
--- src/same_edge.rt:93:9
 no-best-requires : tie.Need-no-best-requires Inv-loop μ-loop
 no-best-requires c κs = search needs
 
--- src/same_edge.rt:95:5
 loop-holds : tie.Need-loop-holds Inv-loop μ-loop
 loop-holds c = (omega arith, λ roads area. c .no-best .ensures roads area ∙ starts-none (c .before .before .before .args .b) (take 10 (candidates-at (sheet-of (c .before .before .before .args .s .now) (c .before .before .before .args .c)) (c .before .before .before .args .starts .number))) (take 10 (candidates-at (sheet-of (c .before .before .before .args .s .now) (c .before .before .before .args .c)) (c .before .before .before .args .ends .number))))
 
--- src/same_edge.rt:96:9
 take-ends-requires : tie.Need-take-ends-requires Inv-loop μ-loop
 take-ends-requires c κs = let p = c .before .before .before .before .before .before .pre in (p .0, p .1, p .2, p .3, c .if1 .taken, p .4, p .5, p .6)
 
--- src/same_edge.rt:97:9
 add-i : tie.Need-add-i Inv-loop μ-loop
 add-i c = omega (arith, c .before .before .before .before .before .before .before .pre .2 .count, c .before .if1 .taken)
 
--- src/same_edge.rt:95:5
 loop-less : tie.Need-loop-less Inv-loop μ-loop
 loop-less c = omega (arith, c .before .if1 .taken)
 
--- src/same_edge.rt:95:5
 loop-again : tie.Need-loop-again Inv-loop μ-loop
 loop-again c = let a = c .before .before .before .before .before .before .before .args in let p = c .before .before .before .before .before .before .before .pre in
     let xs = candidates-at (sheet-of (a .s .now) (a .c)) (a .starts .number) in
     let ys = candidates-at (sheet-of (a .s .now) (a .c)) (a .ends .number) in
     let i = c .before .before .before .loop .i in
     let x = ten-at xs (a .starts .count) (p .2 .count) i (c .before .if1 .taken) in (
-    omega (arith, c .before .if1 .taken),
-    λ roads area. start-more (a .b) (take 10 xs) (take 10 ys) i (omega (arith, c .before .if1 .taken, ten-long xs (a .starts .count) (p .2 .count))) (best-of roads (c .before .before .before .loop .best) area) (best-of roads (c .take-ends .result) area) (c .before .before .before .loop .inv .1 roads area) (c .take-ends .ensures roads area ∙ rw x),
+      omega (arith, c .before .if1 .taken),
+      λ roads area. start-more (a .b) (take 10 xs) (take 10 ys) i (omega (arith, c .before .if1 .taken, ten-long xs (a .starts .count) (p .2 .count))) (best-of roads (c .before .before .before .loop .best) area) (best-of roads (c .take-ends .result) area) (c .before .before .before .loop .inv .1 roads area) (c .take-ends .ensures roads area ∙ rw x),
     )
 
--- src/same_edge.rt:81:1
 returns : tie.Need-returns Inv-loop μ-loop
 returns c = let a = c .before .before .before .before .before .before .args in let p = c .before .before .before .before .before .before .pre in
     let xs = candidates-at (sheet-of (a .s .now) (a .c)) (a .starts .number) in
