@@ -10,7 +10,7 @@ use Rattle.model.specs.Judge.{rows-before}
 use Rattle.model.specs.Candidates.{nearest}
 use Rattle.model.specs.Sheet.{sheet-of}
 use Rattle.candidates.specs.Found.{candidates-at}
-use Rattle.candidates.proofs.RankLaws.{distance-is}
+use Rattle.candidates.proofs.RanksKept.{distance-is}
 use Rattle.candidates.proofs.Rules.{nearest-none, nearer, not-nearer}
 use Rattle.candidates.proofs.closest.nearest.Statement.{statement}
 use Rattle.candidates.proofs.closest.nearest.Tie as tie
@@ -77,11 +77,11 @@ loop-again c = let p = c .before .before .before .before .before .before .before
     let is : a .first + c .before .before .before .index .result ≡ rows-before (a .s .now) (a .i) + getD (a .ranks .now) (rows-before (a .s .now) (a .i) + k) 0 = ap (λ (n : ℕ). a .first + n) (c .before .before .before .index .ensures .0) ∙ rw (p .2) in
     let e = distance-is (a .s .now) (a .c) (a .i) (a .ranks .now) (p .5) k l (a .first + c .before .before .before .index .result) is (c .before .before .row .result) (c .before .before .row .ensures .0) in
     let cs = candidates-at (sheet-of (a .s .now) (a .c)) (a .i) in (
-    omega arith,
-    ⊎-elim
-    (λ w. w .1 ∙ e ∙ nearer cs k (c .before .before .before .before .before .before .loop .least) (c .before .before .before .before .before .before .loop .inv .1) (rw e at (w .0 .taken)))
-    (λ w. w .1 ∙ not-nearer cs k (c .before .before .before .before .before .before .loop .least) (c .before .before .before .before .before .before .loop .inv .1) (rw e at (w .0 .left)))
-    (c .if1 .came),
+      omega arith,
+      ⊎-elim
+          (λ w. w .1 ∙ e ∙ nearer cs k (c .before .before .before .before .before .before .loop .least) (c .before .before .before .before .before .before .loop .inv .1) (rw e at (w .0 .taken)))
+          (λ w. w .1 ∙ not-nearer cs k (c .before .before .before .before .before .before .loop .least) (c .before .before .before .before .before .before .loop .inv .1) (rw e at (w .0 .left)))
+          (c .if1 .came),
     )
 
 -- src/closest.rt:32:1

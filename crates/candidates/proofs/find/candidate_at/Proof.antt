@@ -5,7 +5,7 @@ use Rattle.model.specs.declared.Point.{Point}
 use Rattle.model.specs.Sheet.{sheet-of}
 use Rattle.candidates.specs.Found.{candidates-at, no-candidate, OnSheet}
 use Rattle.model.proofs.Fields.{point-class-most}
-use Rattle.candidates.proofs.RankLaws.{made-is, listed-in, candidate-on}
+use Rattle.candidates.proofs.RanksKept.{made-is, listed-in, candidate-on}
 use borrow.Author.Needs.{needs}
 use Rattle.candidates.proofs.find.candidate_at.Statement.{statement}
 use Rattle.candidates.proofs.find.candidate_at.Tie as tie

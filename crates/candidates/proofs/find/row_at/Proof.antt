@@ -2,7 +2,7 @@ use Rattle.model.specs.Judge.{rows-before}
 use lib.ListN.{getD}
 use Prim.Native.Nat.{ℕ, _+_, _<_}
 use mathlib.Core.Path.{_≡_, sym, ap, _∙_}
-use Rattle.candidates.proofs.RankLaws.{place-in, row-in}
+use Rattle.candidates.proofs.RanksKept.{place-in, row-in}
 use native.Mathlib.Omega.{arith}
 use borrow.Author.Needs.{needs}
 use Rattle.candidates.proofs.find.row_at.Statement.{statement}
