@@ -6,6 +6,8 @@ pub mod Degrees
 pub mod Weighed
 pub mod SheetFacts
 pub mod Gathered
+pub mod Putting
 pub mod RankLaws
+pub mod RanksKept
 pub mod Rules
 pub mod Pointwise

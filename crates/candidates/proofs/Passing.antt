@@ -1,16 +1,14 @@
--- `passes` and `ahead` by the tests that the code makes, in its order.
+-- `passes` by the tests that the code makes, in its order.
 use Prim.Native.Nat.{_<_, _≤_}
 use mathlib.Core.Path.{_≡_, refl}
 use mathlib.Core.Bool.{Bool, true, false, _&&_, not}
 use lib.Dec.{ltb}
-use lib.Ieee.{lt, eq}
+use lib.Ieee.{lt}
 use borrow.Author.Tests.{lt-ltb, le-ltb}
 use Rattle.model.specs.declared.Settings.{Settings}
 use Rattle.model.specs.declared.Candidate.{Candidate}
 use Rattle.model.specs.View.{is-slip}
 use Rattle.model.specs.Candidates.{passes}
-use Rattle.candidates.specs.declared.rank.Rank.{Rank}
-use Rattle.candidates.specs.Ranking.{ahead}
 
 -- its class is too far off, and it is no slip road
 abbrev pub off-class : Settings → Candidate → Bool
@@ -45,13 +43,3 @@ module _ (c : Settings) (x : Candidate) where
   pub kept : off-class c x ≡ false → lt (c .«search_radius_m») (x .distance) ≡ false → lt (c .«max_bearing_diff») (x .«bearing_diff») ≡ false → true ≡ passes c x
   unfolding passes
   kept e f g = rw (e, f, g)
-
-module _ (a b : Rank) where
-  pub by-score : lt (a .score) (b .score) ≡ true → lt (a .score) (b .score) ≡ ahead a b
-  by-score t = simp t
-
-  pub by-number : lt (a .score) (b .score) ≡ false → eq (a .score) (b .score) ≡ true → ltb (a .number) (b .number) ≡ ahead a b
-  by-number t e = simp (t, e)
-
-  pub by-none : lt (a .score) (b .score) ≡ false → eq (a .score) (b .score) ≡ false → eq (a .score) (b .score) ≡ ahead a b
-  by-none t e = simp (t, e)

@@ -2,9 +2,10 @@
 use Prim.Native.Nat.{ℕ, _+_, _-_, _≤_, _<_, zero-le}
 use mathlib.Core.Path.{_≡_, sym, ap, _∙_}
 use mathlib.Core.Bool.{true, false, cond}
-use mathlib.Core.List.{List, [], map}
+use mathlib.Core.List.{List, []}
 use native.Mathlib.Omega.{arith}
-use lib.ListN.{take}
+use lib.ListN.{length}
+use lib.Seq.{take-all}
 use lib.Ieee.{Float, lt, le}
 use Rattle.model.specs.declared.Counts.{Counts}
 use Rattle.model.specs.declared.Settings.{Settings}
@@ -12,13 +13,9 @@ use Rattle.model.specs.Numbers.{infinity}
 use Rattle.model.specs.Lists.{tab}
 use Rattle.model.specs.Sheet.{sheet-of}
 use Rattle.model.specs.Candidates.{nearest}
-use Rattle.candidates.specs.declared.rank.Rank.{Rank}
-use Rattle.candidates.specs.declared.rank.Ranks.{Ranks}
 use Rattle.candidates.specs.declared.closest.Points.the-variants.{Fine, NoCandidate}
 use Rattle.candidates.specs.Found.{candidates-at}
-use Rattle.candidates.specs.Ranking.{row-measured, Ranked}
 use Rattle.candidates.specs.Points.{points-of}
-use Rattle.candidates.proofs.RankLaws.{counted}
 use Rattle.candidates.proofs.Rules.{closer, onward, none-yet, point-empty, point-passed, all-passed, points-are}
 
 -- Before point i, with the least distance so far and its point: the verdict from there on is that of all points.
@@ -38,15 +35,15 @@ module _ (s : List ℕ) (c : Counts) (set : Settings) (es : set ≡ sheet-of s c
     verdict : 0 < c .p → onward most i (record { point = at; distance = least }) (tab (c .p - i) i (candidates-at (sheet-of s c))) ≡ points-of (sheet-of s c)
     verdict h = so .rest ∙ ap (λ (x : Settings). onward (x .«max_candidate_distance_m») 0 none-yet (tab (c .p) 0 (candidates-at (sheet-of s c)))) es ∙ points-are s c h
 
-    module _ (h : i < c .p) (r : Ranks) (f : Ranked s c i r) where
-      pub empty : r .count ≡ 0 → NoCandidate i ≡ points-of (sheet-of s c)
+    module _ (h : i < c .p) (n : ℕ) (counted : n ≡ length (candidates-at (sheet-of s c) i)) where
+      pub empty : n ≡ 0 → NoCandidate i ≡ points-of (sheet-of s c)
       empty e =
-          let none : candidates-at (sheet-of s c) i ≡ [] = sym (f .are) ∙ ap (λ (n : ℕ). map (λ (x : Rank). row-measured s c i (x .row)) (take n (r .items))) e in
+          let none : candidates-at (sheet-of s c) i ≡ [] = sym (take-all 0 (candidates-at (sheet-of s c) i) (omega arith)) in
           point-empty most (candidates-at (sheet-of s c)) (c .p) i (record { point = at; distance = least }) h none ∙ verdict (omega arith)
 
-      module _ (some : r .count ≡ 0 → ⊥) (d : Float) (same : d ≡ nearest (candidates-at (sheet-of s c) i)) where
+      module _ (some : n ≡ 0 → ⊥) (d : Float) (same : d ≡ nearest (candidates-at (sheet-of s c) i)) where
         passed : onward most (i + 1) (closer i (record { point = at; distance = least }) d) (tab (c .p - (i + 1)) (i + 1) (candidates-at (sheet-of s c))) ≡ onward most 0 none-yet (tab (c .p) 0 (candidates-at (sheet-of s c)))
-        passed = rw same (point-passed most (candidates-at (sheet-of s c)) (c .p) i (record { point = at; distance = least }) h (omega (arith, counted s c i r f)) ∙ so .rest)
+        passed = rw same (point-passed most (candidates-at (sheet-of s c)) (c .p) i (record { point = at; distance = least }) h (omega arith) ∙ so .rest)
 
         pub passed-closer : lt d least ≡ true → SoFar s c (set .«max_candidate_distance_m») (i + 1) i d
         unfolding closer

@@ -71,6 +71,16 @@ module _ (x y : Float) (p : Amount x) (q : Amount y) where
       go true e = sym (eq-eqb _ _ (equal e))
       go false e = sym (ne-eqb _ _ (unequal e))
 
+-- a smaller amount stands before a greater one
+pub score-orders : Orders lt Amount
+score-orders = record {
+  onward = λ x a b p q r e f.
+      let near = ltb-true (rank x) (rank a) (sym (lt-is x a p q) ∙ e) in
+      let far = ltb-false (rank b) (rank a) (sym (lt-is b a r q) ∙ f) in
+      lt-is x b p r ∙ lt-ltb (rank x) (rank b) (omega arith);
+  one-way = λ x a p q e. let near = ltb-true (rank x) (rank a) (sym (lt-is x a p q) ∙ e) in lt-is a x q p ∙ le-ltb (rank a) (rank x) (omega arith);
+}
+
 -- ---- the order of pairs of numbers
 
 unfoldable lexical : ℕ → ℕ → ℕ → ℕ → Bool
@@ -139,3 +149,13 @@ better-orders = record {
   onward = λ x a b p q r e f. better-is x b p r ∙ lexical-onward _ _ _ _ _ _ (sym (better-is x a p q) ∙ e) (sym (better-is b a r q) ∙ f);
   one-way = λ x a p q e. better-is a x q p ∙ lexical-one-way _ _ _ _ (sym (better-is x a p q) ∙ e);
 }
+
+-- against a road of a smaller number the score alone decides
+pub by-score : (a b : Candidate) → b .road .number ≤ a .road .number → better a b ≡ lt (a .score) (b .score)
+unfolding better
+by-score a b h = rw (le-ltb (a .road .number) (b .road .number) h) (go (lt (a .score) (b .score)) (eq (a .score) (b .score)))
+  where
+    go : (p q : Bool) → (p || (q && false)) ≡ p
+    go true q = refl
+    go false true = refl
+    go false false = refl

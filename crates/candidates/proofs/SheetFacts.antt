@@ -1,16 +1,21 @@
 -- What a well-formed sheet says of its settings, its points and their rows, as far as scores and candidates need it.
-use Prim.Native.Nat.{ℕ, _+_, _*_, _<_}
-use mathlib.Core.Path.{sym, ap, subst}
+use Prim.Native.Nat.{ℕ, zero, suc, _+_, _-_, _*_, _<_}
+use mathlib.Core.Path.{_≡_, sym, ap, _∙_, subst}
+use mathlib.Core.Bool.{true}
 use mathlib.Core.List.{List}
+use native.Mathlib.Nat.{zero-add}
 use native.Mathlib.Omega.{arith}
+use borrow.Author.Tests.{ltb-true}
 use Rattle.model.specs.declared.Counts.{Counts}
 use Rattle.model.specs.declared.Point.{Point}
 use Rattle.model.specs.Bytes.{u64-at, f64-at}
 use Rattle.model.specs.Layout.{settings-at, settings-bytes, points-bytes, rows-bytes}
-use Rattle.model.specs.Judge.{WellFormed, source-of}
+use Rattle.model.specs.Judge.{WellFormed, source-of, row-count, rows-before, row-road, row-rises, point-rises, rows-good}
 use Rattle.model.specs.Sheet.{settings-of, point-of, row-of, sheet-of, road-at}
 use Rattle.model.specs.View.{Spot, spot-of}
 use Rattle.model.specs.Candidates.{candidate-of}
+use Rattle.model.proofs.Judging.{all-of-at}
+use Rattle.model.proofs.Listed.{every-at}
 use Rattle.model.proofs.Fields.{settings-most, point-bearing-most, point-class-most, class-most, row-road-below, row-distance-most, row-bearing-most, source-below, target-below}
 use Rattle.model.proofs.Parsed.{setting-is, row-road-is, row-distance-is, row-bearing-is, number-is, source-is, target-is}
 use Rattle.sheet.proofs.RoadFields.{frc-is, fow-is}
@@ -75,3 +80,28 @@ module _ (s : List ℕ) (c : Counts) (ok : WellFormed s c) where
           frc = rw (frc-is s c r road-below) (road-classes .0);
           fow = rw (fow-is s c r road-below) (road-classes .1);
         }
+
+    -- the number of the road that the row names
+    pub row-number : road-at (sheet-of s c) (row-of (rows-bytes s c) k .road) .number ≡ row-road s c k
+    row-number = number-is s c (row-of (rows-bytes s c) k .road) road-below ∙ row-road-is s c k g
+
+  -- the roads of a point's rows rise
+  module _ (i : ℕ) (h : i < c .p) where
+    row-step : (k : ℕ) → k + 1 < row-count s i → row-road s c (rows-before s i + k) < row-road s c (rows-before s i + k + 1)
+    unfolding rows-good
+    row-step k l =
+        let point : point-rises s c i ≡ true = rw zero-add at (every-at (point-rises s c) (c .p) 0 (all-of-at _ (ok .rows) 1) i h) in
+        ltb-true _ _ (every-at (row-rises s c) (row-count s i - 1) (rows-before s i) point k (omega arith))
+
+    row-add : (k d : ℕ) → k + suc d < row-count s i → row-road s c (rows-before s i + k) < row-road s c (rows-before s i + (k + suc d))
+    row-add k zero l =
+        let there : rows-before s i + (k + 1) ≡ rows-before s i + k + 1 = omega arith in
+        rw there (row-step k (omega arith))
+    row-add k (suc d) l =
+        let there : rows-before s i + (k + suc (suc d)) ≡ rows-before s i + (k + suc d) + 1 = omega arith in
+        rw there (omega (arith, row-add k d (omega arith), row-step (k + suc d) (omega arith)))
+
+    pub rows-rise : (j k : ℕ) → j < k → k < row-count s i → row-road s c (rows-before s i + j) < row-road s c (rows-before s i + k)
+    rows-rise j k l m =
+        let there : j + suc (k - (j + 1)) ≡ k = omega arith in
+        rw there at (row-add j (k - (j + 1)) (omega arith))

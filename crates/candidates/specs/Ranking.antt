@@ -1,11 +1,10 @@
 -- The rows of a point in the order of their candidates.
-use Prim.Native.Nat.{ℕ, _+_, _*_, _≤_, _<_}
+use Prim.Native.Nat.{ℕ, _+_, _-_, _*_, _≤_, _<_}
 use mathlib.Core.Path.{_≡_}
-use mathlib.Core.Bool.{Bool, _||_, _&&_}
-use mathlib.Core.List.{List, map}
-use lib.Dec.{ltb}
-use lib.ListN.{length, getD, take}
-use lib.Ieee.{Float, nan, eq}
+use mathlib.Core.Bool.{true, false}
+use mathlib.Core.List.{List, _∷_, _++_}
+use lib.ListN.{length, getD, take, drop}
+use lib.Ieee.{Float, nan}
 use Rattle.model.specs.declared.Counts.{Counts}
 use Rattle.model.specs.declared.Candidate.{Candidate}
 use Rattle.model.specs.Numbers.{_<ᶠ_}
@@ -14,50 +13,41 @@ use Rattle.model.specs.Judge.{row-count, rows-before}
 use Rattle.model.specs.Sheet.{point-of, row-of, sheet-of}
 use Rattle.model.specs.View.{spot-of}
 use Rattle.model.specs.Candidates.{candidate-of}
-use Rattle.candidates.specs.declared.rank.Rank.{Rank}
-use Rattle.candidates.specs.declared.rank.Ranks.{Ranks}
 use Rattle.candidates.specs.Found.{candidates-at, no-candidate}
 
 -- the candidate of the k-th row of point i, whether it passes or not
 unfoldable pub row-measured : List ℕ → Counts → ℕ → ℕ → Candidate
 row-measured s c i k = candidate-of (sheet-of s c .settings) (point-of (points-bytes s c) i) (spot-of (sheet-of s c) (row-of (rows-bytes s c) (rows-before s i + k)))
 
-abbrev pub rank-of : ℕ → Candidate → Rank
-rank-of k x = record { row = k; number = x .road .number; score = x .score }
+-- ---- sorting, in the front of two lists: the rows and their scores
 
--- `better` of the candidates
-abbrev pub ahead : Rank → Rank → Bool
-ahead a b = a .score <ᶠ b .score || (eq (a .score) (b .score) && ltb (a .number) (b .number))
+abbrev pub put-at : {A : Type 0} → ℕ → A → List A → List A
+put-at place x xs = take place xs ++ (x ∷ drop place xs)
 
--- what stands in an array past its end
-abbrev pub no-rank : Rank
-no-rank = record { row = 0; number = 0; score = nan }
+-- row k of this score stands among the first n: behind a score that is not greater, before a greater one; past them nothing has changed
+pub record Put (rows₀ rows : List ℕ) (by₀ by : List Float) (n k : ℕ) (score : Float) : Type 0 where
+  pub place : ℕ
+  pub within : place ≤ n
+  pub behind : 0 < place → (score <ᶠ getD by₀ (place - 1) nan) ≡ false
+  pub ahead : place < n → (score <ᶠ getD by₀ place nan) ≡ true
+  pub ranks : take (n + 1) rows ≡ put-at place k (take n rows₀)
+  pub scores : take (n + 1) by ≡ put-at place score (take n by₀)
+  pub past : (j : ℕ) → n < j → getD rows j 0 ≡ getD rows₀ j 0
 
--- The first `count` items name the rows whose candidates are those of point i, in their order.
-pub record Ranked (s : List ℕ) (c : Counts) (i : ℕ) (r : Ranks) : Type 0 where
-  pub are : map (λ (x : Rank). row-measured s c i (x .row)) (take (r .count) (r .items)) ≡ candidates-at (sheet-of s c) i
-  pub long : length (r .items) ≡ 64
-  pub few : r .count ≤ 64
-  pub within : r .count ≤ row-count s i
-  pub rows : (k : ℕ) → k < r .count → getD (r .items) k no-rank .row < row-count s i
-  pub scores : (k : ℕ) → k < r .count → getD (r .items) k no-rank .score ≡ row-measured s c i (getD (r .items) k no-rank .row) .score
+-- the first n rows are those of the candidates of point i, in their order, with their scores; past the point's rows nothing has changed
+pub record Ranked (s : List ℕ) (c : Counts) (i : ℕ) (rows₀ rows : List ℕ) (by : List Float) (n : ℕ) : Type 0 where
+  pub counted : n ≡ length (candidates-at (sheet-of s c) i)
+  pub within : n ≤ row-count s i
+  pub own : (k : ℕ) → k < n → getD rows k 0 < row-count s i
+  pub are : (k : ℕ) → k < n → row-measured s c i (getD rows k 0) ≡ getD (candidates-at (sheet-of s c) i) k no-candidate
+  pub scores : (k : ℕ) → k < n → getD by k nan ≡ getD (candidates-at (sheet-of s c) i) k no-candidate .score
+  pub past : (j : ℕ) → row-count s i ≤ j → getD rows j 0 ≡ getD rows₀ j 0
 
 -- ---- the ranks of all points, in a lent list: the rows of each point's candidates from its first row on, and behind all rows the points' counts
 
 -- where the count of point i stands
 abbrev pub count-place : ℕ → ℕ
 count-place i = 1024 + i
-
--- ranks that fit in the list: at most 64, each of a row below 64
-abbrev pub Rows64 : Ranks → Type 0
-Rows64 x = (x .count ≤ 64) × (length (x .items) ≡ 64) × ((k : ℕ) → k < x .count → getD (x .items) k no-rank .row < 64)
-
--- the ranks x of point i, whose rows begin at `first`, are written; those before them and the other counts are as before
-pub record Written (ranks₀ ranks : List ℕ) (i first : ℕ) (x : Ranks) : Type 0 where
-  pub rows : (k : ℕ) → k < x .count → getD ranks (first + k) 0 ≡ getD (x .items) k no-rank .row
-  pub count : getD ranks (count-place i) 0 ≡ x .count
-  pub earlier : (j : ℕ) → j < first → getD ranks j 0 ≡ getD ranks₀ j 0
-  pub others : (j : ℕ) → j < i → getD ranks (count-place j) 0 ≡ getD ranks₀ (count-place j) 0
 
 -- the ranks of point i
 pub record RanksAt (s : List ℕ) (c : Counts) (i : ℕ) (ranks : List ℕ) : Type 0 where
@@ -75,9 +65,9 @@ RanksTo s c n ranks = (i : ℕ) → i < n → RanksAt s c i ranks
 abbrev pub score-place : ℕ → ℕ → ℕ
 score-place i k = 10 * i + k
 
--- the scores of the ranks x of point i are written; those of the points before it are as before
-pub record Scored (scores₀ scores : List Float) (i : ℕ) (x : Ranks) : Type 0 where
-  pub each : (k : ℕ) → k < 10 → k < x .count → getD scores (score-place i k) nan ≡ getD (x .items) k no-rank .score
+-- the first n of `by` are written as far as a leg tries them; those of the points before it are as before
+pub record Scored (scores₀ scores : List Float) (i : ℕ) (by : List Float) (n : ℕ) : Type 0 where
+  pub each : (k : ℕ) → k < 10 → k < n → getD scores (score-place i k) nan ≡ getD by k nan
   pub earlier : (j : ℕ) → j < score-place i 0 → getD scores j nan ≡ getD scores₀ j nan
 
 -- the scores of point i

@@ -1,6 +1,6 @@
 // Whether every point has a candidate, and the nearest one of all is near enough.
-use crate::rank;
 use crate::find::index;
+use crate::rank;
 use model::Counts;
 use sheet::points;
 ghost use mathlib.Core.Path.{_≡_};
@@ -58,14 +58,12 @@ pub fn require_candidates(s: &[u8], c: Counts, ranks: &mut [u8], scores: &mut [f
     let mut at = 0;
     let mut i = 0;
     while i < c.p {
-        let x = rank::rank_rows(s, c, set, i);
-        if x.count == 0 {
+        let first = points::first_row(s, c, i);
+        let count = rank::rank_point(s, c, set, i, first, ranks, scores);
+        if count == 0 {
             return Points::NoCandidate(i);
         }
-        let first = points::first_row(s, c, i);
-        rank::keep_ranks(ranks, i, first, x);
-        rank::keep_scores(scores, i, x);
-        let d = nearest(s, c, i, first, x.count, ranks);
+        let d = nearest(s, c, i, first, count, ranks);
         if d < least {
             least = d;
             at = i;

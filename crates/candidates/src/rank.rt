@@ -11,24 +11,12 @@ ghost use mathlib.Core.Path.{_≡_};
 ghost use Prim.Native.Nat.{_+_, _≤_, _<_};
 ghost use lib.ListN.{length};
 ghost use Rattle.model.specs.Layout.{rows-bytes};
-ghost use Rattle.model.specs.Judge.{WellFormed};
+ghost use Rattle.model.specs.Judge.{WellFormed, row-count, rows-before};
 ghost use Rattle.model.specs.Sheet.{row-of, sheet-of};
 ghost use Rattle.model.specs.View.{spot-of};
 ghost use Rattle.model.specs.Candidates.{candidate-of};
-ghost use Rattle.candidates.specs.Ranking.{rank-of, ahead, Ranked, Rows64, Written, Scored};
-
-// A row by its number among the point's rows, and what its candidate is sorted by: the score and the road's number.
-pub struct Rank {
-    pub row: usize,
-    pub number: usize,
-    pub score: f64,
-}
-
-// The first `count` of the items, best first.
-pub struct Ranks {
-    pub items: [Rank; 64],
-    pub count: usize,
-}
+ghost use Rattle.candidates.specs.Found.{candidates-at};
+ghost use Rattle.candidates.specs.Ranking.{Put, Ranked, RanksTo, Scored, ScoresTo};
 
 // The candidate of row k of the sheet, measured for the point p.
 pub fn measured(s: &[u8], c: Counts, set: Settings, p: Point, k: usize) -> Candidate
@@ -41,95 +29,88 @@ pub fn measured(s: &[u8], c: Counts, set: Settings, p: Point, k: usize) -> Candi
     candidate::candidate_of(set, p, w, r)
 }
 
-// The rank of the k-th row, whose candidate is x.
-fn rank_of(k: usize, x: Candidate) -> Rank
-    ensures { λ r. ⌜ r ≡ rank-of k x ⌝ }
+// Puts a row of this score among the first `count` of a point, which are sorted by score: those of a greater score move up by one.
+fn put_row(rows: &mut [u8], by: &mut [f64], count: usize, row: u8, score: f64)
+    requires { ⌜ (count < length (now rows)) × (count < length (now by)) ⌝ }
+    ensures { λ _. ⌜ Put (now (rows .entry)) (now (rows .exit)) (now (by .entry)) (now (by .exit)) count row score ⌝ }
 {
-    let road = x.road;
-    Rank {
-        row: k,
-        number: road.number,
-        score: x.score,
+    let mut j = count;
+    'shift: while 0 < j {
+        let y = by[j - 1];
+        if !(score < y) {
+            break 'shift;
+        }
+        by[j] = y;
+        rows[j] = rows[j - 1];
+        j -= 1;
     }
+    by[j] = score;
+    rows[j] = row;
 }
 
-// Whether a stands before b, as their candidates do: by score, then by road number.
-fn ahead(a: Rank, b: Rank) -> bool
-    ensures { λ r. ⌜ r ≡ ahead a b ⌝ }
-{
-    a.score < b.score || (a.score == b.score && a.number < b.number)
-}
-
-// The rows of point i that pass, with the sheet's settings: sorted by insertion from the back, then cut.
-pub fn rank_rows(s: &[u8], c: Counts, set: Settings, i: usize) -> Ranks
-    requires { ⌜ WellFormed (now s) c × (i < c .p) × (set ≡ sheet-of (now s) c .settings) ⌝ }
-    ensures { λ r. ⌜ Ranked (now (s .entry)) c i r ⌝ }
+// The rows of point i that pass, best first, into the front of `rows`, and their scores into the front of `by`: how many there are after the cut.
+// Rows of equal scores keep their order, which is that of their roads' numbers.
+fn rank_rows(
+    s: &[u8],
+    c: Counts,
+    set: Settings,
+    i: usize,
+    first: usize,
+    rows: &mut [u8],
+    by: &mut [f64],
+) -> usize
+    requires { ⌜ WellFormed (now s) c × (i < c .p) × (set ≡ sheet-of (now s) c .settings) × (first ≡ rows-before (now s) i) × (row-count (now s) i ≤ length (now rows)) × (64 ≤ length (now by)) ⌝ }
+    ensures { λ n. ⌜ Ranked (now (s .entry)) c i (now (rows .entry)) (now (rows .exit)) (now (by .exit)) n ⌝ }
 {
     let p = points::point(s, c, i);
-    let rows = points::row_count(s, c, i);
-    let first = points::first_row(s, c, i);
-    let none = Rank {
-        row: 0,
-        number: 0,
-        score: 0.0,
-    };
-    let mut items = [none; 64];
+    let all = points::row_count(s, c, i);
     let mut count = 0;
     let mut k = 0;
-    while k < rows {
+    while k < all {
         let x = measured(s, c, set, p, first + k);
         if candidate::passes(set, x) {
-            let rank = rank_of(k, x);
-            let mut j = count;
-            'shift: while 0 < j {
-                let y = items[j - 1];
-                if !ahead(rank, y) {
-                    break 'shift;
-                }
-                items[j] = y;
-                j -= 1;
-            }
-            items[j] = rank;
+            put_row(rows, by, count, k as u8, x.score);
             count += 1;
         }
         k += 1;
     }
     let most = set.max_candidates as usize;
-    if most < count {
-        count = most;
-    }
-    Ranks { items, count }
+    if most < count { most } else { count }
 }
 
 // Where the points' counts stand in the lent ranks: behind all rows.
 pub const COUNTS: usize = 1024;
 
-// Writes the ranks x of point i, whose rows begin at `first`, into the lent ranks.
-pub fn keep_ranks(ranks: &mut [u8], i: usize, first: usize, x: Ranks)
-    requires { ⌜ (1040 ≤ length (now ranks)) × (i < 16) × (first + x .count ≤ 1024) × Rows64 x ⌝ }
-    ensures { λ _. ⌜ Written (now (ranks .entry)) (now (ranks .exit)) i first x ⌝ }
+// Writes the scores of those of point i that a leg tries, of its `all` candidates, ten places for each point.
+fn keep_scores(scores: &mut [f64], i: usize, by: &[f64], all: usize)
+    requires { ⌜ (160 ≤ length (now scores)) × (i < 16) × (64 ≤ length (now by)) × (all ≤ 64) ⌝ }
+    ensures { λ _. ⌜ Scored (now (scores .entry)) (now (scores .exit)) i (now (by .entry)) all ⌝ }
 {
-    let count = x.count;
-    let mut k = 0;
-    while k < count {
-        let r = x.items[k];
-        ranks[first + k] = r.row as u8;
-        k += 1;
-    }
-    ranks[COUNTS + i] = count as u8;
-}
-
-// Writes the scores of those of point i that a leg tries, ten places for each point.
-pub fn keep_scores(scores: &mut [f64], i: usize, x: Ranks)
-    requires { ⌜ (160 ≤ length (now scores)) × (i < 16) × Rows64 x ⌝ }
-    ensures { λ _. ⌜ Scored (now (scores .entry)) (now (scores .exit)) i x ⌝ }
-{
-    let count = find::tried(x.count);
+    let count = find::tried(all);
     let first = 10 * i;
     let mut k = 0;
     while k < count {
-        let r = x.items[k];
-        scores[first + k] = r.score;
+        scores[first + k] = by[k];
         k += 1;
     }
+}
+
+// Ranks the rows of point i, which begin at `first`: how many candidates it has. The ranks and scores of the points before it stay.
+pub fn rank_point(
+    s: &[u8],
+    c: Counts,
+    set: Settings,
+    i: usize,
+    first: usize,
+    ranks: &mut [u8],
+    scores: &mut [f64],
+) -> usize
+    requires { ⌜ WellFormed (now s) c × (i < c .p) × (set ≡ sheet-of (now s) c .settings) × (first ≡ rows-before (now s) i) × (1040 ≤ length (now ranks)) × (160 ≤ length (now scores)) × RanksTo (now s) c i (now ranks) × ScoresTo (now s) c i (now scores) ⌝ }
+    ensures { λ n. ⌜ (n ≡ length (candidates-at (sheet-of (now (s .entry)) c) i)) × RanksTo (now (s .entry)) c (i + 1) (now (ranks .exit)) × ScoresTo (now (s .entry)) c (i + 1) (now (scores .exit)) ⌝ }
+{
+    let mut by = [0.0; 64];
+    let count = rank_rows(s, c, set, i, first, &mut ranks[first..], &mut by);
+    ranks[COUNTS + i] = count as u8;
+    keep_scores(scores, i, &by, count);
+    count
 }

@@ -1,29 +1,21 @@
 use Rattle.sheet.proofs.Stops.{point-is}
-use lib.ListN.{getD}
-use mathlib.Core.Path.{_≡_, sym, ap, _∙_, subst}
+use mathlib.Core.Path.{sym, ap, subst}
 use Rattle.model.specs.declared.Point.{Point}
 use Rattle.model.specs.Sheet.{sheet-of}
-use Rattle.candidates.specs.Found.{candidates-at, no-candidate, OnSheet}
+use Rattle.candidates.specs.Found.{OnSheet}
 use Rattle.model.proofs.Fields.{point-class-most}
-use Rattle.candidates.proofs.RankLaws.{made-is, listed-in, candidate-on}
+use Rattle.candidates.proofs.RanksKept.{made-is, listed-in, candidate-on}
 use borrow.Author.Needs.{needs}
 use Rattle.candidates.proofs.find.candidate_at.Statement.{statement}
 use Rattle.candidates.proofs.find.candidate_at.Tie as tie
-use Rattle.candidates.proofs.find.candidate_at.Reads as reads
-use Rattle.candidates.proofs.find.candidate_at.Lts as lts
-use Rattle.candidates.proofs.find.row_at.Reads as row-at-reads
-use Rattle.candidates.proofs.rank.measured.Reads as measured-reads
 
--- src/find.rt:78:9
 row-at-requires : tie.Need-row-at-requires
 row-at-requires c κs = search needs
 
--- src/find.rt:79:5
 measured-requires : tie.Need-measured-requires
 measured-requires c κs = let p = c .before .before .before .pre in let a = c .before .before .before .args in
     (p .0, c .row-at .ensures .1, rw (p .2 .point, ap (λ (x : Point). x .frc) (point-is (a .s .now) (a .c) (a .x .number) (p .2 .below))) (point-class-most (a .s .now) (a .c) (p .0 .sound) (a .x .number) (p .2 .below) .0))
 
--- src/find.rt:67:1
 returns : tie.Need-returns
 returns c = let p = c .before .before .before .before .pre in let a = c .before .before .before .before .args in
     let l = listed-in (a .s .now) (a .c) (a .x) (a .ranks .now) (p .0) (p .2) (p .5) (a .k) (p .3) in

@@ -1,33 +1,25 @@
 use Rattle.model.specs.Judge.{rows-before}
 use lib.ListN.{getD}
-use Prim.Native.Nat.{ℕ, _+_, _<_}
-use mathlib.Core.Path.{_≡_, sym, ap, _∙_}
-use Rattle.candidates.proofs.RankLaws.{place-in, row-in}
+use Prim.Native.Nat.{ℕ, _+_}
+use mathlib.Core.Path.{_≡_, ap, _∙_}
+use Rattle.candidates.proofs.RanksKept.{place-in, row-in}
 use native.Mathlib.Omega.{arith}
 use borrow.Author.Needs.{needs}
 use Rattle.candidates.proofs.find.row_at.Statement.{statement}
 use Rattle.candidates.proofs.find.row_at.Tie as tie
-use Rattle.candidates.proofs.find.row_at.Reads as reads
-use Rattle.candidates.proofs.find.row_at.Lts as lts
-use Rattle.candidates.proofs.find.index.Reads as index-reads
 
--- src/find.rt:62:27
 add-index : tie.Need-add-index
 add-index c = let p = c .before .before .pre in let a = c .before .before .args in omega (arith, place-in (a .s .now) (a .c) (a .x) (a .ranks .now) (p .0) (p .1) (p .4) (a .k) (p .2))
 
--- src/find.rt:62:21
 shared-slice-read-index : tie.Need-shared-slice-read-index
 shared-slice-read-index c = let p = c .before .before .before .pre in let a = c .before .before .before .args in omega (arith, p .3, place-in (a .s .now) (a .c) (a .x) (a .ranks .now) (p .0) (p .1) (p .4) (a .k) (p .2))
 
--- src/find.rt:62:9
 index-requires : tie.Need-index-requires
 index-requires c κs = search needs
 
--- src/find.rt:63:5
 add-result : tie.Need-add-result
 add-result c = let p = c .before .before .before .before .pre in let a = c .before .before .before .before .args in omega (arith, c .index .ensures .1, place-in (a .s .now) (a .c) (a .x) (a .ranks .now) (p .0) (p .1) (p .4) (a .k) (p .2))
 
--- src/find.rt:57:1
 returns : tie.Need-returns
 returns c = let p = c .before .before .before .before .pre in let a = c .before .before .before .before .args in
     let first = p .1 .first in
