@@ -1,6 +1,7 @@
 -- The loop over the pairs: what is left decides, as the whole list does from the start.
 use Prim.Native.Nat.{ℕ, suc, _-_, _≤_, _<_}
 use mathlib.Core.Path.{_≡_, refl, sym, ap, _∙_}
+use mathlib.Core.Bool.{true}
 use mathlib.Core.Option.{Option, none, Option·none-ne-some}
 use mathlib.Core.List.{List, _∷_}
 use native.Mathlib.Numerals.{add-one}
@@ -9,7 +10,8 @@ use lib.ListN.{length, drop, getD, drop-of-length-le}
 use lib.Seq.{drop-cons}
 use Rattle.model.specs.declared.Road.{Road}
 use Rattle.model.specs.declared.Limits.{Limits}
-use Rattle.model.specs.Legs.{Pair, Scored, Seek, Turn, next-pair, try-pair, try-pairs}
+use Rattle.model.specs.Numbers.{_≤ᶠ_}
+use Rattle.model.specs.Legs.{Pair, Scored, Seek, Turn, best-score, asked, settled, sought, next-pair, try-pair, try-pairs}
 use Rattle.rules.specs.declared.Best.{Best}
 use Rattle.rules.specs.Code.{best-of}
 use Rattle.rules.proofs.BestLaws.{best-some}
@@ -51,6 +53,14 @@ module _ (roads : ℕ → Road) (b : Limits) (seek : Seek) (ps : List Pair) wher
           let split : drop t ps ≡ p ∷ drop (suc t) ps = drop-cons ps t d (omega arith) ∙ rw is in
           ap (λ (l : List Pair). try-pairs b seek l (best-of roads (st .best) area)) (sym split)
           ∙ (rw (good .running h) at (good .means))
+
+      -- a pair whose sum reaches the best score ends them
+      pub good-enough : best-score (best-of roads (st .best) area) ≤ᶠ p .sum ≡ true → end-of roads st area ≡ try-pairs b seek ps none
+      unfolding end-of next-pair turn-of try-pair asked settled
+      good-enough e =
+          ap (λ (ph : Phase). next-pair (turn-of ph (best-of roads (st .best) area)) sought) (good .running h)
+          ∙ sym (rw (e, asked, settled))
+          ∙ one-on
 
       -- after the pair, by how it goes on
       after : (ph : Phase) (x : Option Scored) → next-pair (turn-of ph x) (try-pairs b seek (drop (suc t) ps)) ≡ next-pair (turn-of ph x) (try-pairs b seek (drop (place-after ph t n) ps))

@@ -6,7 +6,8 @@ use native.Mathlib.Numerals.{add-one}
 use native.Mathlib.Omega.{arith}
 use lib.ListN.{length, take, drop, getD, replicate, length-drop}
 use lib.Seq.{drop-cons, getD-drop}
-use lib.Ieee.{Float}
+use lib.Ieee.{Float, nan}
+use Rattle.model.specs.Numbers.{_⊕_}
 use Rattle.model.specs.declared.Counts.{Counts}
 use Rattle.model.specs.declared.Candidate.{Candidate}
 use Rattle.model.specs.Lists.{sort}
@@ -14,7 +15,7 @@ use Rattle.model.specs.Judge.{WellFormed}
 use Rattle.model.specs.Sheet.{sheet-of}
 use Rattle.model.specs.Legs.{Pair, pair, leg-pairs, by-sum}
 use Rattle.candidates.specs.declared.find.Shortlist.{Shortlist}
-use Rattle.candidates.specs.Found.{candidates-at, Listed}
+use Rattle.candidates.specs.Found.{candidates-at, no-candidate, Listed}
 use Rattle.candidates.specs.Ranking.{score-place, ScoresAt}
 use Rattle.candidates.proofs.Gathered.{candidates-facts, candidates-ordered}
 use Rattle.rules.proofs.OneRoad.{ten-long, ten-at}
@@ -72,6 +73,13 @@ module _ (s : List ℕ) (c : Counts) (starts ends : Shortlist) (la : Listed s c 
     starts-rise = rising s c starts la ok;
     ends-rise = rising s c ends lb ok;
   }
+
+  pub sum-is : (scores : List Float) → ScoresAt s c (starts .number) scores → ScoresAt s c (ends .number) scores → (j k : ℕ) → j < starts .count → k < ends .count
+      → (getD scores (score-place (starts .number) j) nan ⊕ getD scores (score-place (ends .number) k) nan) ≡ pair (getD (firsts s c starts) j no-candidate) (getD (firsts s c ends) k no-candidate) .sum
+  sum-is scores ha hb j k l g = rw (
+    ha j (omega (arith, ten s c starts la)) (omega (arith, la .count)) ∙ ap (λ (y : Candidate). y .score) (ten-at (candidates-at (sheet-of s c) (starts .number)) (starts .count) (la .count) j l),
+    hb k (omega (arith, ten s c ends lb)) (omega (arith, lb .count)) ∙ ap (λ (y : Candidate). y .score) (ten-at (candidates-at (sheet-of s c) (ends .number)) (ends .count) (lb .count) k g),
+  )
 
   pub heads-start : Heads s c starts ends (starts .count * ends .count) 0 (replicate 10 0)
   heads-start = record {

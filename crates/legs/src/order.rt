@@ -1,4 +1,4 @@
-// Which pair comes next.
+// Which pair comes next, and its sum.
 use candidates::find::Shortlist;
 use pairs::Next;
 ghost use mathlib.Core.Path.{_≡_};
@@ -8,7 +8,10 @@ ghost use lib.ListN.{length, take, drop, getD};
 ghost use Rattle.model.specs.declared.Candidate.{Candidate};
 ghost use Rattle.model.specs.Lists.{sort};
 ghost use Rattle.model.specs.Legs.{pair, by-sum};
+ghost use lib.Ieee.{nan};
+ghost use Rattle.model.specs.Numbers.{_⊕_};
 ghost use Rattle.candidates.specs.Found.{no-candidate};
+ghost use Rattle.candidates.specs.Ranking.{score-place};
 ghost use Rattle.pairs.specs.Left.{left, Scored};
 
 // The next pair by its start and its end. The scores of both points stand in one list, ten places for each point.
@@ -26,4 +29,14 @@ pub fn next_pair(scores: &[f64], starts: Shortlist, ends: Shortlist, heads: &mut
         ends.count,
         heads,
     )
+}
+
+// The sum of a pair's scores.
+pub fn sum_of(scores: &[f64], starts: Shortlist, ends: Shortlist, p: Next) -> f64
+    requires { ⌜ (160 ≤ length (now scores)) × (starts .number < 16) × (ends .number < 16) × (p .start < 10) × (p .end < 10) ⌝ }
+    ensures { λ r. ⌜ r ≡ (getD (now (scores .entry)) (score-place (starts .number) (p .start)) nan ⊕ getD (now (scores .entry)) (score-place (ends .number) (p .end)) nan) ⌝ }
+{
+    let first = 10 * starts.number + p.start;
+    let last = 10 * ends.number + p.end;
+    scores[first] + scores[last]
 }

@@ -90,7 +90,7 @@ fn next_place(phase: Phase, t: usize, n: usize) -> usize
     }
 }
 
-// The pairs in the order of their sums, until one cannot win or the heap is used up.
+// The pairs in the order of their sums, until one cannot win or the heap is used up. No candidate is made of a pair that cannot win.
 pub fn try_pairs(
     s: &[u8],
     c: Counts,
@@ -128,9 +128,12 @@ pub fn try_pairs(
     let mut t = 0;
     while t < count {
         let next = order::next_pair(scores, starts, ends, &mut heads);
+        let best = st.best;
+        if routes::best_score(best) <= order::sum_of(scores, starts, ends, next) {
+            return st;
+        }
         let first = find::candidate_at(s, c, set, starts, ranks, next.start);
         let last = find::candidate_at(s, c, set, ends, ranks, next.end);
-        let best = st.best;
         st = try_pair(
             s,
             c,
