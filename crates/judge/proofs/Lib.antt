@@ -1,3 +1,1 @@
 pub mod Marking
-pub mod Measuring
-pub mod Whole

@@ -1,11 +1,11 @@
 // Refusals 1 to 5 in their order.
-use crate::Part;
 use crate::lists;
-use crate::parts;
 use crate::rows;
 use model::Counts;
 use model::Judged;
 use model::Verdict;
+use ranges::Part;
+use ranges::parts;
 use sheet::layout;
 use sheet::numbers;
 ghost use mathlib.Core.Path.{_≡_};

@@ -6,7 +6,7 @@ use lib.Dec.{ltb}
 use Rattle.model.specs.Judge.{start-of, start-rises}
 use Rattle.model.specs.Table.{every}
 use Rattle.model.specs.Bytes.{u32-at}
-use Rattle.judge.proofs.Measuring.{top, rises, one-turn, all-end}
+use Rattle.ranges.proofs.Measuring.{top, rises, one-turn, all-end}
 use Rattle.judge.proofs.lists.starts_rise.Statement.{statement}
 use Rattle.judge.proofs.lists.starts_rise.Tie as tie
 
