@@ -16,7 +16,7 @@ use borrow.Author.Tests.{eq-eqb}
 use Rattle.model.specs.Numbers.{_<ᶠ_}
 use Rattle.model.specs.Lists.{In, keep, first, maybe}
 use Rattle.model.specs.Sheet.{Sheet, road-at, numbers, list-at}
-use Rattle.model.specs.Ends.{is-valid-node, forced-continuation, forced-predecessor, way, Walk, fresh, with-road, meets, walked, walk, extension}
+use Rattle.model.specs.Ends.{is-valid-node, way-on, way-back, forced-continuation, forced-predecessor, way, Walk, fresh, with-road, meets, walked, walk, extension}
 use Rattle.model.proofs.Members.{in-getD, any-of, keep-in, first-in, in-tab, tab-in}
 use Rattle.bounds.specs.Amounts.{Amount}
 use Rattle.bounds.specs.Formed.{Formed}
@@ -91,7 +91,7 @@ module _ (t : Sheet) where
       pub among : In x (all-forced forward)
 
     on-forced : (y x : ℕ) → forced-continuation t y ≡ some x → Forced true x
-    unfolding forced-continuation
+    unfolding forced-continuation way-on
     on-forced y x h =
         let v = road-at t y .target in
         let p = passed (is-valid-node t v) (first (λ z. not (eqb (road-at t z .target) (road-at t y .source))) (list-at t v)) x h in
@@ -100,7 +100,7 @@ module _ (t : Sheet) where
         record { below = l .0; among = all-forced-in true v x (listed-node v x m) (p .0) (keep-in (leaves t v) (numbers t) (is-number x (l .0)) (eq-eqb (road-at t x .source) v (l .1))) }
 
     back-forced : (y x : ℕ) → forced-predecessor t y ≡ some x → Forced false x
-    unfolding forced-predecessor
+    unfolding forced-predecessor way-back
     back-forced y x h =
         let v = road-at t y .source in
         let test : ℕ → Bool = λ z. eqb (road-at t z .target) v && not (eqb (road-at t z .source) (road-at t y .target)) in

@@ -24,7 +24,7 @@ use Rattle.sheet.proofs.Stops.{stop-point, stop-rows}
 use Rattle.bounds.proofs.Sources.{when-some}
 use Rattle.candidates.specs.Found.{no-stop, stop-at, candidates-at, OnSheet}
 use Rattle.candidates.proofs.Sorted.{Ordered, ordered-take, every-insert, insert-ordered}
-use Rattle.candidates.proofs.Ranked.{Scored, better-orders}
+use Rattle.candidates.proofs.Ranked.{ScoreAmount, better-orders}
 use Rattle.candidates.proofs.Weighed.{passing-score}
 use Rattle.candidates.proofs.SheetFacts.{weighed, measured, on-sheet}
 
@@ -79,7 +79,7 @@ module _ (s : List ℕ) (c : Counts) (i : ℕ) (h : i < c .p) where
 
   module _ (ok : WellFormed s c) where
     -- what a row gives
-    pub row-facts : (k : ℕ) → k < row-count s i → (x : Candidate) → row-candidate s c i k ≡ some x → Scored x × OnSheet (sheet-of s c) c x
+    pub row-facts : (k : ℕ) → k < row-count s i → (x : Candidate) → row-candidate s c i k ≡ some x → ScoreAmount x × OnSheet (sheet-of s c) c x
     unfolding row-candidate candidate
     row-facts k l x e =
         let at : rows-before s i + k < c .m = omega (arith, rows-within s c (ok .rows) i h) in
@@ -88,23 +88,23 @@ module _ (s : List ℕ) (c : Counts) (i : ℕ) (h : i < c .p) where
         let spot = spot-of (sheet-of s c) (row-of (rows-bytes s c) (rows-before s i + k)) in
         let y = candidate-of settings point spot in
         let w = when-some (passes settings y) y x e in
-        (subst Scored (w .1) (passing-score settings point spot (weighed s c ok) (measured s c ok i h (rows-before s i + k) at) (w .0)), subst (OnSheet (sheet-of s c) c) (w .1) (on-sheet s c ok i h (rows-before s i + k) at))
+        (subst ScoreAmount (w .1) (passing-score settings point spot (weighed s c ok) (measured s c ok i h (rows-before s i + k) at) (w .0)), subst (OnSheet (sheet-of s c) c) (w .1) (on-sheet s c ok i h (rows-before s i + k) at))
 
     -- the first k rows, sorted
-    pub sorted-facts : (k : ℕ) → k ≤ row-count s i → Every Scored (sorted (row-candidate s c i) k) × Ordered better (sorted (row-candidate s c i) k) × Every (OnSheet (sheet-of s c) c) (sorted (row-candidate s c i) k)
+    pub sorted-facts : (k : ℕ) → k ≤ row-count s i → Every ScoreAmount (sorted (row-candidate s c i) k) × Ordered better (sorted (row-candidate s c i) k) × Every (OnSheet (sheet-of s c) c) (sorted (row-candidate s c i) k)
     unfolding sorted
     sorted-facts zero l = (every-none _, tt, every-none _)
     sorted-facts (suc k) l = go (row-candidate s c i k) (row-facts k l) (sorted-facts k (omega arith))
       where
-        go : {xs : List Candidate} (o : Option Candidate) → ((x : Candidate) → o ≡ some x → Scored x × OnSheet (sheet-of s c) c x)
-            → Every Scored xs × Ordered better xs × Every (OnSheet (sheet-of s c) c) xs → Every Scored (placed o xs) × Ordered better (placed o xs) × Every (OnSheet (sheet-of s c) c) (placed o xs)
+        go : {xs : List Candidate} (o : Option Candidate) → ((x : Candidate) → o ≡ some x → ScoreAmount x × OnSheet (sheet-of s c) c x)
+            → Every ScoreAmount xs × Ordered better xs × Every (OnSheet (sheet-of s c) c) xs → Every ScoreAmount (placed o xs) × Ordered better (placed o xs) × Every (OnSheet (sheet-of s c) c) (placed o xs)
         go none f h = h
         go {xs} (some x) f h =
             let w = f x refl in
-            (every-insert better Scored x xs (w .0) (h .0), insert-ordered better Scored better-orders x xs (w .0) (h .0) (h .1), every-insert better (OnSheet (sheet-of s c) c) x xs (w .1) (h .2))
+            (every-insert better ScoreAmount x xs (w .0) (h .0), insert-ordered better ScoreAmount better-orders x xs (w .0) (h .0) (h .1), every-insert better (OnSheet (sheet-of s c) c) x xs (w .1) (h .2))
 
     -- the candidates of a point are scored, none a NaN, and on the sheet
-    pub candidates-facts : Every Scored (candidates-at (sheet-of s c) i) × Every (OnSheet (sheet-of s c) c) (candidates-at (sheet-of s c) i)
+    pub candidates-facts : Every ScoreAmount (candidates-at (sheet-of s c) i) × Every (OnSheet (sheet-of s c) c) (candidates-at (sheet-of s c) i)
     candidates-facts =
         let facts = sorted-facts (row-count s i) (le-refl (row-count s i)) in
         let inside : (x : Candidate) → In x (candidates-at (sheet-of s c) i) → In x (sorted (row-candidate s c i) (row-count s i)) =

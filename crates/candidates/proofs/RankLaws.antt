@@ -23,7 +23,7 @@ use Rattle.bounds.proofs.Sources.{when-some}
 use Rattle.candidates.specs.Found.{candidates-at, no-candidate}
 use Rattle.candidates.specs.Ranking.{row-measured, put-at, Put, Ranked}
 use Rattle.candidates.proofs.Sorted.{Orders, Ordered, every-insert, insert-ordered, insert-at}
-use Rattle.candidates.proofs.Ranked.{Scored, score-orders, by-score}
+use Rattle.candidates.proofs.Ranked.{ScoreAmount, score-orders, by-score}
 use Rattle.candidates.proofs.SheetFacts.{row-number, rows-rise}
 use Rattle.candidates.proofs.Gathered.{sorted, row-candidate, row-facts, cut-is}
 
@@ -79,7 +79,7 @@ module _ (s : List ℕ) (c : Counts) (i : ℕ) where
 
   module _ (h : i < c .p) (ok : WellFormed s c) where
     valued : (k : ℕ) → k < row-count s i → (x : Candidate) → row-candidate s c i k ≡ some x → Valued k
-    valued k l x e = subst Scored (sym (row-is k x e)) (row-facts s c i h ok k l x e .0)
+    valued k l x e = subst ScoreAmount (sym (row-is k x e)) (row-facts s c i h ok k l x e .0)
 
     number-of : (k : ℕ) → k < row-count s i → row-measured s c i k .road .number ≡ row-road s c (rows-before s i + k)
     unfolding row-measured candidate-of

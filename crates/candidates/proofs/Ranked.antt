@@ -137,14 +137,14 @@ lexical-one-way r s m n e = elim (lexical-true r s m n e) [ inl h ↦ above-firs
 
 -- ---- candidates
 
-abbrev pub Scored : Candidate → Type 0
-Scored x = Amount (x .score)
+abbrev pub ScoreAmount : Candidate → Type 0
+ScoreAmount x = Amount (x .score)
 
-better-is : (a b : Candidate) → Scored a → Scored b → better a b ≡ lexical (rank (a .score)) (rank (b .score)) (a .road .number) (b .road .number)
+better-is : (a b : Candidate) → ScoreAmount a → ScoreAmount b → better a b ≡ lexical (rank (a .score)) (rank (b .score)) (a .road .number) (b .road .number)
 unfolding better lexical
 better-is a b p q = rw (lt-is (a .score) (b .score) p q, eq-is (a .score) (b .score) p q)
 
-pub better-orders : Orders better Scored
+pub better-orders : Orders better ScoreAmount
 better-orders = record {
   onward = λ x a b p q r e f. better-is x b p r ∙ lexical-onward _ _ _ _ _ _ (sym (better-is x a p q) ∙ e) (sym (better-is b a r q) ∙ f);
   one-way = λ x a p q e. better-is a x q p ∙ lexical-one-way _ _ _ _ (sym (better-is x a p q) ∙ e);

@@ -22,7 +22,7 @@ use Rattle.model.proofs.RowSums.{before-next, before-le, rows-within}
 use Rattle.bounds.proofs.Choices.{below-or-not}
 use Rattle.candidates.specs.declared.find.Shortlist.{Shortlist}
 use Rattle.candidates.specs.Found.{candidates-at, OnSheet, no-candidate, Listed}
-use Rattle.candidates.specs.Ranking.{row-measured, Ranked, count-place, RanksAt, RanksTo, score-place, Scored, ScoresTo}
+use Rattle.candidates.specs.Ranking.{ranks-size, row-measured, Ranked, count-place, RanksAt, RanksTo, score-place, ScoresKept, ScoresTo}
 use Rattle.candidates.proofs.SheetFacts.{row-number}
 use Rattle.candidates.proofs.Gathered.{candidates-facts}
 
@@ -30,7 +30,7 @@ use Rattle.candidates.proofs.Gathered.{candidates-facts}
 
 -- The part of `ranks` from the first row of point i on is lent, comes back as `rows`, and the count is written; the ranks of the points before it stay.
 module _ (s : List ℕ) (c : Counts) (i : ℕ) (h : i < c .p) (ok : WellFormed s c) (first : ℕ) (begins : first ≡ rows-before s i) (ranks rows rest : List ℕ) (by : List Float) (n : ℕ)
-    (fit : 1040 ≤ length ranks) (long : length rows ≡ length (take (length ranks - first) (drop first ranks))) (f : Ranked s c i (take (length ranks - first) (drop first ranks)) rows by n) where
+    (fit : ranks-size ≤ length ranks) (long : length rows ≡ length (take (length ranks - first) (drop first ranks))) (f : Ranked s c i (take (length ranks - first) (drop first ranks)) rows by n) where
   lent : List ℕ
   lent = take first ranks ++ (rows ++ rest)
 
@@ -107,15 +107,15 @@ module _ (s : List ℕ) (c : Counts) (i : ℕ) (h : i < c .p) (ok : WellFormed s
 -- ---- writing the scores of a point
 
 -- the first k of them are written, from place `first` on
-pub record PartlyScored (scores₀ scores : List Float) (first : ℕ) (by : List Float) (k : ℕ) : Type 0 where
+pub record PartlyKept (scores₀ scores : List Float) (first : ℕ) (by : List Float) (k : ℕ) : Type 0 where
   pub each : (j : ℕ) → j < k → getD scores (first + j) nan ≡ getD by j nan
   pub earlier : (j : ℕ) → j < first → getD scores j nan ≡ getD scores₀ j nan
 
 module _ (scores₀ : List Float) (first : ℕ) (by : List Float) where
-  pub scored-none : PartlyScored scores₀ scores₀ first by 0
+  pub scored-none : PartlyKept scores₀ scores₀ first by 0
   scored-none = record { each = λ j h. absurd (omega arith); earlier = λ j h. refl }
 
-  pub scored-more : (scores : List Float) (k : ℕ) → PartlyScored scores₀ scores first by k → first + k < length scores → PartlyScored scores₀ (set scores (first + k) (getD by k nan)) first by (k + 1)
+  pub scored-more : (scores : List Float) (k : ℕ) → PartlyKept scores₀ scores first by k → first + k < length scores → PartlyKept scores₀ (set scores (first + k) (getD by k nan)) first by (k + 1)
   scored-more scores k w fit =
       let v = getD by k nan in
       record {
@@ -127,7 +127,7 @@ module _ (scores₀ : List Float) (first : ℕ) (by : List Float) where
       }
 
 -- one point more
-pub scores-next : (s : List ℕ) (c : Counts) (i : ℕ) (rows₀ rows : List ℕ) (by : List Float) (n : ℕ) → Ranked s c i rows₀ rows by n → (scores₀ scores : List Float) → Scored scores₀ scores i by n → ScoresTo s c i scores₀ → ScoresTo s c (i + 1) scores
+pub scores-next : (s : List ℕ) (c : Counts) (i : ℕ) (rows₀ rows : List ℕ) (by : List Float) (n : ℕ) → Ranked s c i rows₀ rows by n → (scores₀ scores : List Float) → ScoresKept scores₀ scores i by n → ScoresTo s c i scores₀ → ScoresTo s c (i + 1) scores
 scores-next s c i rows₀ rows by n f scores₀ scores w h j l k few g = ⊎-elim
     (λ (a : j < i). w .earlier (score-place j k) (omega arith) ∙ h j a k few g)
     (λ (a : i ≤ j).

@@ -45,6 +45,10 @@ pub record Ranked (s : List ℕ) (c : Counts) (i : ℕ) (rows₀ rows : List ℕ
 
 -- ---- the ranks of all points, in a lent list: the rows of each point's candidates from its first row on, and behind all rows the points' counts
 
+-- how many entries there are: 1,024 rows and 16 counts
+abbrev pub ranks-size : ℕ
+ranks-size = 1040
+
 -- where the count of point i stands
 abbrev pub count-place : ℕ → ℕ
 count-place i = 1024 + i
@@ -62,11 +66,14 @@ RanksTo s c n ranks = (i : ℕ) → i < n → RanksAt s c i ranks
 
 -- ---- the scores of the candidates that a leg tries, in another lent list: ten places for each point
 
+abbrev pub scores-size : ℕ
+scores-size = 160
+
 abbrev pub score-place : ℕ → ℕ → ℕ
 score-place i k = 10 * i + k
 
 -- the first n of `by` are written as far as a leg tries them; those of the points before it are as before
-pub record Scored (scores₀ scores : List Float) (i : ℕ) (by : List Float) (n : ℕ) : Type 0 where
+pub record ScoresKept (scores₀ scores : List Float) (i : ℕ) (by : List Float) (n : ℕ) : Type 0 where
   pub each : (k : ℕ) → k < 10 → k < n → getD scores (score-place i k) nan ≡ getD by k nan
   pub earlier : (j : ℕ) → j < score-place i 0 → getD scores j nan ≡ getD scores₀ j nan
 

@@ -11,7 +11,7 @@ ghost use Rattle.model.specs.Judge.{WellFormed, rows-before};
 ghost use Rattle.model.specs.Sheet.{sheet-of};
 ghost use Rattle.model.specs.Candidates.{nearest};
 ghost use Rattle.candidates.specs.Found.{candidates-at};
-ghost use Rattle.candidates.specs.Ranking.{RanksAt, RanksTo, ScoresTo};
+ghost use Rattle.candidates.specs.Ranking.{ranks-size, scores-size, RanksAt, RanksTo, ScoresTo};
 ghost use Rattle.candidates.specs.declared.closest.Points.the-variants.{Fine};
 ghost use Rattle.candidates.specs.Points.{points-of};
 
@@ -30,7 +30,7 @@ fn infinity() -> f64
 
 // The least distance of the `count` candidates of point i, whose rows begin at `first`, by their ranks; infinity where there is none.
 pub fn nearest(s: &[u8], c: Counts, i: usize, first: usize, count: usize, ranks: &[u8]) -> f64
-    requires { ⌜ WellFormed (now s) c × (i < c .p) × (first ≡ rows-before (now s) i) × (count ≡ length (candidates-at (sheet-of (now s) c) i)) × (1040 ≤ length (now ranks)) × RanksAt (now s) c i (now ranks) ⌝ }
+    requires { ⌜ WellFormed (now s) c × (i < c .p) × (first ≡ rows-before (now s) i) × (count ≡ length (candidates-at (sheet-of (now s) c) i)) × (ranks-size ≤ length (now ranks)) × RanksAt (now s) c i (now ranks) ⌝ }
     ensures { λ d. ⌜ d ≡ nearest (candidates-at (sheet-of (now (s .entry)) c) i) ⌝ }
 {
     let mut least = infinity();
@@ -49,7 +49,7 @@ pub fn nearest(s: &[u8], c: Counts, i: usize, first: usize, count: usize, ranks:
 // The first point without a candidate; else the point whose nearest candidate is the nearest of all, the first if equal, where that one is too far.
 // Where the points are fine, the ranks of all of them stand in `ranks`, and the scores that legs ask for in `scores`.
 pub fn require_candidates(s: &[u8], c: Counts, ranks: &mut [u8], scores: &mut [f64]) -> Points
-    requires { ⌜ WellFormed (now s) c × (1040 ≤ length (now ranks)) × (160 ≤ length (now scores)) ⌝ }
+    requires { ⌜ WellFormed (now s) c × (ranks-size ≤ length (now ranks)) × (scores-size ≤ length (now scores)) ⌝ }
     ensures verdict { λ r. ⌜ r ≡ points-of (sheet-of (now (s .entry)) c) ⌝ }
     ensures ranked { λ r. ⌜ (r ≡ Fine → RanksTo (now (s .entry)) c (c .p) (now (ranks .exit)) × ScoresTo (now (s .entry)) c (c .p) (now (scores .exit))) ⌝ }
 {

@@ -12,7 +12,7 @@ ghost use mathlib.Core.Path.{_≡_};
 ghost use Rattle.model.specs.Judge.{WellFormed, rows-before};
 ghost use Rattle.model.specs.Sheet.{sheet-of};
 ghost use Rattle.candidates.specs.Found.{tried, candidates-at, no-candidate, OnSheet, Listed};
-ghost use Rattle.candidates.specs.Ranking.{RanksAt};
+ghost use Rattle.candidates.specs.Ranking.{ranks-size, RanksAt};
 
 // A point by its number and record, its first row, and how many of its candidates a leg tries.
 pub struct Shortlist {
@@ -38,7 +38,7 @@ pub fn tried(n: usize) -> usize
 
 // The candidates of point i that a leg tries.
 pub fn shortlist_of(s: &[u8], c: Counts, i: usize, ranks: &[u8]) -> Shortlist
-    requires { ⌜ WellFormed (now s) c × (i < c .p) × (1040 ≤ length (now ranks)) × RanksAt (now s) c i (now ranks) ⌝ }
+    requires { ⌜ WellFormed (now s) c × (i < c .p) × (ranks-size ≤ length (now ranks)) × RanksAt (now s) c i (now ranks) ⌝ }
     ensures { λ x. ⌜ (x .number ≡ i) × Listed (now (s .entry)) c x ⌝ }
 {
     let point = points::point(s, c, i);
@@ -55,7 +55,7 @@ pub fn shortlist_of(s: &[u8], c: Counts, i: usize, ranks: &[u8]) -> Shortlist
 
 // The row of the k-th candidate.
 fn row_at(s: &[u8], c: Counts, x: Shortlist, ranks: &[u8], k: usize) -> usize
-    requires { ⌜ WellFormed (now s) c × Listed (now s) c x × (k < x .count) × (1040 ≤ length (now ranks)) × RanksAt (now s) c (x .number) (now ranks) ⌝ }
+    requires { ⌜ WellFormed (now s) c × Listed (now s) c x × (k < x .count) × (ranks-size ≤ length (now ranks)) × RanksAt (now s) c (x .number) (now ranks) ⌝ }
     ensures { λ r. ⌜ (r ≡ rows-before (now (s .entry)) (x .number) + getD (now (ranks .entry)) (rows-before (now (s .entry)) (x .number) + k) 0) × (r < c .m) ⌝ }
 {
     let first = x.first;
@@ -72,7 +72,7 @@ pub fn candidate_at(
     ranks: &[u8],
     k: usize,
 ) -> Candidate
-    requires { ⌜ WellFormed (now s) c × (set ≡ sheet-of (now s) c .settings) × Listed (now s) c x × (k < x .count) × (1040 ≤ length (now ranks)) × RanksAt (now s) c (x .number) (now ranks) ⌝ }
+    requires { ⌜ WellFormed (now s) c × (set ≡ sheet-of (now s) c .settings) × Listed (now s) c x × (k < x .count) × (ranks-size ≤ length (now ranks)) × RanksAt (now s) c (x .number) (now ranks) ⌝ }
     ensures { λ y. ⌜ (y ≡ getD (candidates-at (sheet-of (now (s .entry)) c) (x .number)) k no-candidate) × OnSheet (sheet-of (now (s .entry)) c) c y ⌝ }
 {
     let row = row_at(s, c, x, ranks, k);
@@ -81,7 +81,7 @@ pub fn candidate_at(
 
 // The number of its road, which stands in its row.
 pub fn road_at(s: &[u8], c: Counts, x: Shortlist, ranks: &[u8], k: usize) -> usize
-    requires { ⌜ WellFormed (now s) c × Listed (now s) c x × (k < x .count) × (1040 ≤ length (now ranks)) × RanksAt (now s) c (x .number) (now ranks) ⌝ }
+    requires { ⌜ WellFormed (now s) c × Listed (now s) c x × (k < x .count) × (ranks-size ≤ length (now ranks)) × RanksAt (now s) c (x .number) (now ranks) ⌝ }
     ensures { λ r. ⌜ r ≡ getD (candidates-at (sheet-of (now (s .entry)) c) (x .number)) k no-candidate .road .number ⌝ }
 {
     let row = row_at(s, c, x, ranks, k);

@@ -16,7 +16,7 @@ ghost use Rattle.model.specs.Sheet.{row-of, sheet-of};
 ghost use Rattle.model.specs.View.{spot-of};
 ghost use Rattle.model.specs.Candidates.{candidate-of};
 ghost use Rattle.candidates.specs.Found.{candidates-at};
-ghost use Rattle.candidates.specs.Ranking.{Put, Ranked, RanksTo, Scored, ScoresTo};
+ghost use Rattle.candidates.specs.Ranking.{ranks-size, scores-size, Put, Ranked, RanksTo, ScoresKept, ScoresTo};
 
 // The candidate of row k of the sheet, measured for the point p.
 pub fn measured(s: &[u8], c: Counts, set: Settings, p: Point, k: usize) -> Candidate
@@ -78,13 +78,19 @@ fn rank_rows(
     if most < count { most } else { count }
 }
 
-// Where the points' counts stand in the lent ranks: behind all rows.
+// The entries of the lent ranks: 1,024 rows, and behind them the counts of 16 points.
+pub const RANKS: usize = 1040;
+
+// Where those counts begin.
 pub const COUNTS: usize = 1024;
+
+// The entries of the lent scores: ten for each of 16 points.
+pub const SCORES: usize = 160;
 
 // Writes the scores of those of point i that a leg tries, of its `all` candidates, ten places for each point.
 fn keep_scores(scores: &mut [f64], i: usize, by: &[f64], all: usize)
-    requires { ⌜ (160 ≤ length (now scores)) × (i < 16) × (64 ≤ length (now by)) × (all ≤ 64) ⌝ }
-    ensures { λ _. ⌜ Scored (now (scores .entry)) (now (scores .exit)) i (now (by .entry)) all ⌝ }
+    requires { ⌜ (scores-size ≤ length (now scores)) × (i < 16) × (64 ≤ length (now by)) × (all ≤ 64) ⌝ }
+    ensures { λ _. ⌜ ScoresKept (now (scores .entry)) (now (scores .exit)) i (now (by .entry)) all ⌝ }
 {
     let count = find::tried(all);
     let first = 10 * i;
@@ -105,7 +111,7 @@ pub fn rank_point(
     ranks: &mut [u8],
     scores: &mut [f64],
 ) -> usize
-    requires { ⌜ WellFormed (now s) c × (i < c .p) × (set ≡ sheet-of (now s) c .settings) × (first ≡ rows-before (now s) i) × (1040 ≤ length (now ranks)) × (160 ≤ length (now scores)) × RanksTo (now s) c i (now ranks) × ScoresTo (now s) c i (now scores) ⌝ }
+    requires { ⌜ WellFormed (now s) c × (i < c .p) × (set ≡ sheet-of (now s) c .settings) × (first ≡ rows-before (now s) i) × (ranks-size ≤ length (now ranks)) × (scores-size ≤ length (now scores)) × RanksTo (now s) c i (now ranks) × ScoresTo (now s) c i (now scores) ⌝ }
     ensures { λ n. ⌜ (n ≡ length (candidates-at (sheet-of (now (s .entry)) c) i)) × RanksTo (now (s .entry)) c (i + 1) (now (ranks .exit)) × ScoresTo (now (s .entry)) c (i + 1) (now (scores .exit)) ⌝ }
 {
     let mut by = [0.0; 64];

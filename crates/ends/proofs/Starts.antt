@@ -9,7 +9,6 @@ use Rattle.model.specs.Numbers.{_⊕_, _<ᶠ_, f0}
 use Rattle.model.specs.Lists.{maybe}
 use Rattle.model.specs.Sheet.{Sheet, road-at}
 use Rattle.model.specs.Ends.{is-valid-node, forced-continuation, forced-predecessor, way, meets, walked, walk, extension}
-use Rattle.road_network.specs.Graph.{way-on, way-back}
 use Rattle.ends.specs.First.{first-node, first-way}
 
 -- a test between none and none
@@ -19,7 +18,7 @@ either-none false = refl
 
 -- a way is forced where the node is not valid
 way-is : (t : Sheet) (forward : Bool) (r : ℕ) → way t forward r ≡ cond (is-valid-node t (first-node t forward r)) none (first-way t forward r)
-unfolding way first-node first-way forced-continuation forced-predecessor way-on way-back
+unfolding way first-node first-way forced-continuation forced-predecessor
 way-is t true r = refl
 way-is t false r = refl
 

@@ -3,7 +3,7 @@ use Prim.Native.Nat.{ℕ}
 use mathlib.Core.Bool.{Bool, cond}
 use mathlib.Core.Option.{Option}
 use Rattle.model.specs.Sheet.{Sheet, road-at}
-use Rattle.road_network.specs.Graph.{way-on, way-back}
+use Rattle.model.specs.Ends.{way-on, way-back}
 
 -- the node at the end of road r, or at its start
 unfoldable pub first-node : Sheet → Bool → ℕ → ℕ

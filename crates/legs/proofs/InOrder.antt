@@ -19,7 +19,7 @@ use Rattle.candidates.specs.Found.{candidates-at, no-candidate, Listed}
 use Rattle.candidates.specs.Ranking.{score-place, ScoresAt}
 use Rattle.candidates.proofs.Gathered.{candidates-facts, candidates-ordered}
 use Rattle.rules.proofs.OneRoad.{ten-long, ten-at}
-use Rattle.pairs.specs.Left.{left, Rising, Scored}
+use Rattle.pairs.specs.Left.{left, Rising, ScoresOf}
 use Rattle.pairs.proofs.PairLaws.{hundred, pairs-long}
 use Rattle.pairs.proofs.Fronts.{length-sort}
 use Rattle.pairs.proofs.Rises.{ordered-rises, rising-take}
@@ -64,7 +64,7 @@ module _ (s : List ℕ) (c : Counts) (starts ends : Shortlist) (la : Listed s c 
       ∙ pairs-long (firsts s c ends) (firsts s c starts) ∙ rw (firsts-long s c starts la, firsts-long s c ends lb)
 
   pub scored : WellFormed s c → (scores : List Float) → ScoresAt s c (starts .number) scores → ScoresAt s c (ends .number) scores
-      → Scored (drop (10 * starts .number) scores) (drop (10 * ends .number) scores) (starts .count) (ends .count) (firsts s c starts) (firsts s c ends)
+      → ScoresOf (drop (10 * starts .number) scores) (drop (10 * ends .number) scores) (starts .count) (ends .count) (firsts s c starts) (firsts s c ends)
   scored ok scores ha hb = record {
     starts-long = firsts-long s c starts la;
     ends-long = firsts-long s c ends lb;

@@ -21,7 +21,7 @@ ghost use Rattle.model.specs.Judge.{WellFormed};
 ghost use Rattle.model.specs.Sheet.{sheet-of, road-at};
 ghost use Rattle.model.specs.Legs.{pair, leg-pairs, by-sum, try-pair, try-pairs};
 ghost use Rattle.candidates.specs.Found.{candidates-at, Listed};
-ghost use Rattle.candidates.specs.Ranking.{RanksAt, ScoresAt};
+ghost use Rattle.candidates.specs.Ranking.{ranks-size, scores-size, RanksAt, ScoresAt};
 ghost use Rattle.rules.specs.Code.{best-of};
 ghost use Rattle.plans.specs.Turns.{turn-of};
 ghost use Rattle.search.specs.Areas.{columns, Sized};
@@ -111,7 +111,7 @@ pub fn try_pairs(
     node: &mut [usize],
     order: &mut [usize],
 ) -> State
-    requires { ⌜ WellFormed (now s) c × (set ≡ sheet-of (now s) c .settings) × Listed (now s) c starts × Listed (now s) c ends × (1040 ≤ length (now ranks)) × RanksAt (now s) c (starts .number) (now ranks) × RanksAt (now s) c (ends .number) (now ranks) × (160 ≤ length (now scores)) × ScoresAt (now s) c (starts .number) (now scores) × ScoresAt (now s) c (ends .number) (now scores) ⌝ }
+    requires { ⌜ WellFormed (now s) c × (set ≡ sheet-of (now s) c .settings) × Listed (now s) c starts × Listed (now s) c ends × (ranks-size ≤ length (now ranks)) × RanksAt (now s) c (starts .number) (now ranks) × RanksAt (now s) c (ends .number) (now ranks) × (scores-size ≤ length (now scores)) × ScoresAt (now s) c (starts .number) (now scores) × ScoresAt (now s) c (ends .number) (now scores) ⌝ }
     requires { ⌜ (0 < slots) × (c .n ≤ length (now route)) × (c .n ≤ length (now «best_route»)) × Sized (c .n) slots (columns (now real) (now penalised) (now «came_from») (now key) (now cost) (now node) (now order) 0 0) ⌝ }
     ensures means { λ t. ⌜ end-of (road-at (sheet-of (now (s .entry)) c)) t (now («best_route» .exit))
         ≡ try-pairs b (seek-at (sheet-of (now (s .entry)) c) slots b) (sort by-sum (leg-pairs (candidates-at (sheet-of (now (s .entry)) c) (starts .number)) (candidates-at (sheet-of (now (s .entry)) c) (ends .number)))) none ⌝ }

@@ -20,7 +20,7 @@ ghost use Rattle.model.specs.Sheet.{sheet-of, road-at};
 ghost use Rattle.search.specs.Areas.{columns, Sized};
 ghost use Rattle.legs.specs.Found.{sought-of};
 ghost use Rattle.search.specs.Answers.{Numbers};
-ghost use Rattle.candidates.specs.Ranking.{RanksTo, ScoresTo};
+ghost use Rattle.candidates.specs.Ranking.{ranks-size, scores-size, RanksTo, ScoresTo};
 ghost use Rattle.courses.specs.Left.{last-of, coverages-at};
 ghost use Rattle.lines.specs.Legs.{leg-limits, leg-sought, KnownAs, Leaves};
 
@@ -97,7 +97,7 @@ pub fn walk_leg(
     coverage: &mut [f64],
     out: &mut [u64],
 ) -> LegEnd
-    requires { ⌜ WellFormed (now s) c × (set ≡ sheet-of (now s) c .settings) × (0 < c .n) × (i + 1 < c .p) × Numbers (c .e) n0 (now covered) × (1040 ≤ length (now ranks)) × RanksTo (now s) c (c .p) (now ranks) × (160 ≤ length (now scores)) × ScoresTo (now s) c (c .p) (now scores) ⌝ }
+    requires { ⌜ WellFormed (now s) c × (set ≡ sheet-of (now s) c .settings) × (0 < c .n) × (i + 1 < c .p) × Numbers (c .e) n0 (now covered) × (ranks-size ≤ length (now ranks)) × RanksTo (now s) c (c .p) (now ranks) × (scores-size ≤ length (now scores)) × ScoresTo (now s) c (c .p) (now scores) ⌝ }
     requires { ⌜ (n0 + c .n + 1 ≤ length (now covered)) × (n0 + c .n + 1 ≤ length (now coverage)) × (c .n + 1 ≤ length (now out)) ⌝ }
     requires { ⌜ (0 < slots) × (c .n ≤ length (now route)) × (c .n ≤ length (now «best_route»)) × Sized (c .n) slots (columns (now real) (now penalised) (now «came_from») (now key) (now cost) (now node) (now order) 0 0) ⌝ }
     ensures { λ r. ⌜ Leaves (sheet-of (now (s .entry)) c) c summed (leg-limits (sheet-of (now (s .entry)) c) i .dnp) (last-of last) (coverages-at (sheet-of (now (s .entry)) c) n0 (now (covered .entry)) (now (coverage .entry))) n0

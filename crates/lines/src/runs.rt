@@ -12,7 +12,7 @@ ghost use lib.ListN.{length};
 ghost use Rattle.model.specs.Judge.{WellFormed};
 ghost use Rattle.model.specs.Sheet.{sheet-of};
 ghost use Rattle.model.specs.Call.{most-entries};
-ghost use Rattle.candidates.specs.Ranking.{RanksTo, ScoresTo};
+ghost use Rattle.candidates.specs.Ranking.{ranks-size, scores-size, RanksTo, ScoresTo};
 ghost use Rattle.search.specs.Areas.{columns, Sized};
 ghost use Rattle.lines.specs.Legs.{line, point-along-line, Ends};
 
@@ -37,7 +37,7 @@ pub fn decode_line(
     coverage: &mut [f64],
     ids: &mut [u64],
 ) -> Legs
-    requires { ⌜ WellFormed (now s) c × (set ≡ sheet-of (now s) c .settings) × (0 < c .n) × (1040 ≤ length (now ranks)) × RanksTo (now s) c (c .p) (now ranks) × (160 ≤ length (now scores)) × ScoresTo (now s) c (c .p) (now scores) ⌝ }
+    requires { ⌜ WellFormed (now s) c × (set ≡ sheet-of (now s) c .settings) × (0 < c .n) × (ranks-size ≤ length (now ranks)) × RanksTo (now s) c (c .p) (now ranks) × (scores-size ≤ length (now scores)) × ScoresTo (now s) c (c .p) (now scores) ⌝ }
     requires { ⌜ (most-entries (c .p) (c .n) ≤ length (now covered)) × (most-entries (c .p) (c .n) ≤ length (now coverage)) × (most-entries (c .p) (c .n) ≤ length (now ids)) ⌝ }
     requires { ⌜ (0 < slots) × (c .n ≤ length (now route)) × (c .n ≤ length (now «best_route»)) × Sized (c .n) slots (columns (now real) (now penalised) (now «came_from») (now key) (now cost) (now node) (now order) 0 0) ⌝ }
     ensures { λ r. ⌜ Ends (sheet-of (now (s .entry)) c) c (line (sheet-of (now (s .entry)) c) slots) (now (ids .exit)) (now (covered .exit)) (now (coverage .exit)) (r .end) (r .course) ⌝ }
@@ -98,7 +98,7 @@ pub fn decode_point_along_line(
     coverage: &mut [f64],
     ids: &mut [u64],
 ) -> Legs
-    requires { ⌜ WellFormed (now s) c × (set ≡ sheet-of (now s) c .settings) × (0 < c .n) × (c .p ≡ 2) × (1040 ≤ length (now ranks)) × RanksTo (now s) c (c .p) (now ranks) × (160 ≤ length (now scores)) × ScoresTo (now s) c (c .p) (now scores) ⌝ }
+    requires { ⌜ WellFormed (now s) c × (set ≡ sheet-of (now s) c .settings) × (0 < c .n) × (c .p ≡ 2) × (ranks-size ≤ length (now ranks)) × RanksTo (now s) c (c .p) (now ranks) × (scores-size ≤ length (now scores)) × ScoresTo (now s) c (c .p) (now scores) ⌝ }
     requires { ⌜ (most-entries (c .p) (c .n) ≤ length (now covered)) × (most-entries (c .p) (c .n) ≤ length (now coverage)) × (most-entries (c .p) (c .n) ≤ length (now ids)) ⌝ }
     requires { ⌜ (0 < slots) × (c .n ≤ length (now route)) × (c .n ≤ length (now «best_route»)) × Sized (c .n) slots (columns (now real) (now penalised) (now «came_from») (now key) (now cost) (now node) (now order) 0 0) ⌝ }
     ensures { λ r. ⌜ Ends (sheet-of (now (s .entry)) c) c (point-along-line (sheet-of (now (s .entry)) c) slots) (now (ids .exit)) (now (covered .exit)) (now (coverage .exit)) (r .end) (r .course) ⌝ }

@@ -54,17 +54,20 @@ is-valid-node t n = not (passes-through n (around t n))
 
 -- ---- forced ways, by road number
 
--- the way on from the end of road r that is no U-turn, where the node gives no choice
-unfoldable pub forced-continuation : Sheet → ℕ → Option ℕ
-forced-continuation t r =
-    cond (is-valid-node t (road-at t r .target)) none
-    (first (λ x. not (eqb (road-at t x .target) (road-at t r .source))) (list-at t (road-at t r .target)))
+-- the way on from the end of road r that is no U-turn
+unfoldable pub way-on : Sheet → ℕ → Option ℕ
+way-on t r = first (λ x. not (eqb (road-at t x .target) (road-at t r .source))) (list-at t (road-at t r .target))
 
 -- the way into its start
+unfoldable pub way-back : Sheet → ℕ → Option ℕ
+way-back t r = first (λ x. eqb (road-at t x .target) (road-at t r .source) && not (eqb (road-at t x .source) (road-at t r .target))) (numbers t)
+
+-- each of them, where the node gives no choice
+unfoldable pub forced-continuation : Sheet → ℕ → Option ℕ
+forced-continuation t r = cond (is-valid-node t (road-at t r .target)) none (way-on t r)
+
 unfoldable pub forced-predecessor : Sheet → ℕ → Option ℕ
-forced-predecessor t r =
-    cond (is-valid-node t (road-at t r .source)) none
-    (first (λ x. eqb (road-at t x .target) (road-at t r .source) && not (eqb (road-at t x .source) (road-at t r .target))) (numbers t))
+forced-predecessor t r = cond (is-valid-node t (road-at t r .source)) none (way-back t r)
 
 unfoldable pub way : Sheet → Bool → ℕ → Option ℕ
 way t forward r = cond forward (forced-continuation t r) (forced-predecessor t r)

@@ -17,13 +17,13 @@ use Rattle.bounds.specs.Amounts.{Amount}
 use Rattle.bounds.proofs.Choices.{below-or-not}
 use Rattle.bounds.proofs.Rank.{rank, le-rank, add-amount}
 use Rattle.candidates.specs.Found.{no-candidate}
-use Rattle.pairs.specs.Left.{left, score-at, Scored, head-sum, Open, HeadAmounts, Least}
+use Rattle.pairs.specs.Left.{left, score-at, ScoresOf, head-sum, Open, HeadAmounts, Least}
 use Rattle.pairs.proofs.AddOrder.{add-order}
 use Rattle.pairs.proofs.Fronts.{sort-first}
 use Rattle.pairs.proofs.Heads.{below-rank, not-below-rank, rank-below, rank-not-below}
 use Rattle.pairs.proofs.LeftLaws.{left-at, every-row, every-left}
 
-module _ (starts ends : List Float) (heads : List ℕ) (m n : ℕ) (xs ys : List Candidate) (s : Scored starts ends m n xs ys) where
+module _ (starts ends : List Float) (heads : List ℕ) (m n : ℕ) (xs ys : List Candidate) (s : ScoresOf starts ends m n xs ys) where
   abbrev sum : ℕ → ℕ → Float
   sum k j = add binary64 (score-at xs k) (score-at ys j)
 

@@ -14,7 +14,7 @@ use Rattle.model.proofs.Members.{in-getD, Every}
 use Rattle.bounds.proofs.Rank.{rank-le}
 use Rattle.candidates.specs.Found.{no-candidate}
 use Rattle.candidates.proofs.Sorted.{Ordered}
-use Rattle.candidates.proofs.Ranked.{Scored}
+use Rattle.candidates.proofs.Ranked.{ScoreAmount}
 use Rattle.pairs.specs.Left.{score-at, Rising}
 use Rattle.pairs.proofs.Heads.{not-below-rank}
 
@@ -32,7 +32,7 @@ later-not-better (x ∷ xs) h j zero l g = absurd (not-suc-le-zero l)
 later-not-better (x ∷ xs) h zero (suc k) l g = h .0 (getD xs k no-candidate) (in-getD xs k no-candidate (le-of-suc-le-suc g))
 later-not-better (x ∷ xs) h (suc j) (suc k) l g = later-not-better xs (h .1) j k (le-of-suc-le-suc l) (le-of-suc-le-suc g)
 
-pub ordered-rises : (xs : List Candidate) → Every Scored xs → Ordered better xs → Rising xs
+pub ordered-rises : (xs : List Candidate) → Every ScoreAmount xs → Ordered better xs → Rising xs
 ordered-rises xs ps h = record {
   amounts = λ k g. ps _ (in-getD xs k no-candidate g);
   rise = λ j k l g.

@@ -26,7 +26,7 @@ pub record Rising (xs : List Candidate) : Type 0 where
   pub rise : (j k : ℕ) → j < k → k < length xs → T (le (score-at xs j) (score-at xs k))
 
 -- m starts and n ends by their scores
-pub record Scored (starts ends : List Float) (m n : ℕ) (xs ys : List Candidate) : Type 0 where
+pub record ScoresOf (starts ends : List Float) (m n : ℕ) (xs ys : List Candidate) : Type 0 where
   pub starts-long : length xs ≡ m
   pub ends-long : length ys ≡ n
   pub starts-are : (k : ℕ) → k < m → getD starts k nan ≡ score-at xs k

@@ -7,7 +7,7 @@ ghost use Rattle.model.specs.declared.Candidate.{Candidate};
 ghost use Rattle.model.specs.Lists.{sort};
 ghost use Rattle.model.specs.Legs.{pair, by-sum};
 ghost use Rattle.candidates.specs.Found.{no-candidate};
-ghost use Rattle.pairs.specs.Left.{left, Scored, Least};
+ghost use Rattle.pairs.specs.Left.{left, ScoresOf, Least};
 
 // A pair by its start and its end.
 pub struct Next {
@@ -43,7 +43,7 @@ fn least_head(starts: &[f64], m: usize, ends: &[f64], n: usize, heads: &[usize])
 // The next pair of those that are left; its start's head moves on.
 pub fn next_pair(starts: &[f64], m: usize, ends: &[f64], n: usize, heads: &mut [usize]) -> Next
     requires { ⌜ (m ≤ length (now starts)) × (n ≤ length (now ends)) × (m ≤ length (now heads)) × ((i : ℕ) × (i < m) × (getD (now heads) i 0 < n)) ⌝ }
-    ensures { λ r. ⌜ (r .start < m) × (r .end < n) × ((xs ys : List Candidate) → Scored (now (starts .entry)) (now (ends .entry)) m n xs ys → sort by-sum (left xs ys (take m (now (heads .entry)))) ≡ pair (getD xs (r .start) no-candidate) (getD ys (r .end) no-candidate) ∷ sort by-sum (left xs ys (take m (now (heads .exit))))) ⌝ }
+    ensures { λ r. ⌜ (r .start < m) × (r .end < n) × ((xs ys : List Candidate) → ScoresOf (now (starts .entry)) (now (ends .entry)) m n xs ys → sort by-sum (left xs ys (take m (now (heads .entry)))) ≡ pair (getD xs (r .start) no-candidate) (getD ys (r .end) no-candidate) ∷ sort by-sum (left xs ys (take m (now (heads .exit))))) ⌝ }
 {
     let start = least_head(starts, m, ends, n, heads);
     let end = heads[start];

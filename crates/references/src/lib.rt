@@ -1,6 +1,7 @@
 // One reference: its kind, its points and its legs, up to the walks at the ends.
 use candidates::closest;
 use candidates::closest::Points;
+use candidates::rank;
 use lines::Course;
 use lines::End;
 use lines::Legs;
@@ -20,6 +21,7 @@ ghost use Rattle.model.specs.Search.{bounded-astar};
 ghost use Rattle.model.specs.Decode.{outcome};
 ghost use Rattle.model.specs.Decode as decode;
 ghost use Rattle.model.specs.Call.{most-entries};
+ghost use Rattle.candidates.specs.Ranking.{ranks-size, scores-size};
 ghost use Rattle.search.specs.Areas.{columns, Sized};
 ghost use Rattle.lines.specs.Legs.{Ends};
 ghost use Rattle.references.specs.Reference.{Asks, Looks, RankedFor, Placed, Comes};
@@ -49,7 +51,7 @@ fn legs_of(kind: usize) -> Ahead
 
 // Refusals 7 to 9, in the order of the table. Where the legs come, the ranks of all points stand in `ranks`, and the scores that legs ask for in `scores`.
 pub fn look_ahead(s: &[u8], c: Counts, ranks: &mut [u8], scores: &mut [f64]) -> Ahead
-    requires { ⌜ WellFormed (now s) c × (1040 ≤ length (now ranks)) × (160 ≤ length (now scores)) ⌝ }
+    requires { ⌜ WellFormed (now s) c × (ranks-size ≤ length (now ranks)) × (scores-size ≤ length (now scores)) ⌝ }
     ensures looks { λ r. ⌜ Looks (sheet-of (now (s .entry)) c) c r ⌝ }
     ensures ranked { λ r. ⌜ RankedFor (now (s .entry)) c r (now (ranks .exit)) (now (scores .exit)) ⌝ }
 {
@@ -104,8 +106,8 @@ pub fn decode_legs(
     ensures { λ r. ⌜ Comes (sheet-of (now (s .entry)) c) c (outcome (view (sheet-of (now (s .entry)) c)) (bounded-astar slots)) (now (ids .exit)) (now (covered .exit)) (now (coverage .exit)) r ⌝ }
 {
     let set = points::settings(s, c);
-    let mut ranks = [0u8; 1040];
-    let mut scores = [0.0f64; 160];
+    let mut ranks = [0u8; rank::RANKS];
+    let mut scores = [0.0f64; rank::SCORES];
     let ahead = look_ahead(s, c, &mut ranks, &mut scores);
     match ahead {
         Ahead::Refused(number, place) => Outcome::Refused(number, place, 0),

@@ -12,10 +12,9 @@ use Rattle.model.specs.declared.Counts.{Counts}
 use Rattle.model.specs.Lists.{first, tab}
 use Rattle.model.specs.Judge.{WellFormed, start-of, entry-of}
 use Rattle.model.specs.Sheet.{Sheet, sheet-of, road-at}
-use Rattle.model.specs.Ends.{is-valid-node, forced-continuation, forced-predecessor}
+use Rattle.model.specs.Ends.{is-valid-node, way-on, way-back, forced-continuation, forced-predecessor}
 use Rattle.model.proofs.Parsed.{road-count}
 use Rattle.sheet.proofs.Parts.{part-is}
-use Rattle.road_network.specs.Graph.{way-on, way-back}
 use Rattle.road_network.proofs.Runs.{first-found, first-step, first-none}
 
 module _ (s : List ℕ) (c : Counts) (r : ℕ) where
@@ -96,7 +95,7 @@ module _ (t : Sheet) (r : ℕ) {v : ℕ} {b : Bool} (valid : b ≡ is-valid-node
     continuation-free e = rw (sym p, sym valid, e)
 
     pub continuation-way : b ≡ false → forced-continuation t r ≡ way-on t r
-    unfolding forced-continuation way-on
+    unfolding forced-continuation
     continuation-way e = rw (sym p, sym valid, e)
 
   module _ (p : v ≡ road-at t r .source) where
@@ -105,5 +104,5 @@ module _ (t : Sheet) (r : ℕ) {v : ℕ} {b : Bool} (valid : b ≡ is-valid-node
     predecessor-free e = rw (sym p, sym valid, e)
 
     pub predecessor-way : b ≡ false → forced-predecessor t r ≡ way-back t r
-    unfolding forced-predecessor way-back
+    unfolding forced-predecessor
     predecessor-way e = let free : is-valid-node t (road-at t r .source) ≡ false = ap (is-valid-node t) (sym p) ∙ sym valid ∙ e in rw free

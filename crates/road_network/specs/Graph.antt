@@ -1,13 +1,13 @@
--- How many roads the test of a node reads, nodes with many roads out, the ways that a node without a choice forces, and such a way as an answer.
+-- How many roads the test of a node reads, nodes with many roads out, and a way as an answer.
 use Prim.Native.Nat.{ℕ, suc, _<_}
 use mathlib.Core.Path.{_≡_}
-use mathlib.Core.Bool.{Bool, _||_, _&&_, not, cond}
+use mathlib.Core.Bool.{Bool, _||_, cond}
 use mathlib.Core.Option.{Option, none, some}
 use mathlib.Core.List.{List, [], _∷_}
-use lib.Dec.{eqb, ltb}
+use lib.Dec.{ltb}
 use lib.ListN.{length}
 use Rattle.model.specs.declared.Neighbour.{Neighbour}
-use Rattle.model.specs.Lists.{any, first}
+use Rattle.model.specs.Lists.{any}
 use Rattle.model.specs.Sheet.{Sheet, road-at, numbers, list-at}
 use Rattle.model.specs.Ends.{meet-road, is-choice}
 use Rattle.road_network.specs.declared.graph.Forced.{Forced}
@@ -29,14 +29,6 @@ roads-read t v = reads t v [] (numbers t)
 -- more than two roads out
 unfoldable pub is-fork : Sheet → ℕ → Bool
 is-fork t v = ltb 2 (length (list-at t v))
-
--- the way on from the end of road r that is no U-turn, whatever choice the node gives
-unfoldable pub way-on : Sheet → ℕ → Option ℕ
-way-on t r = first (λ x. not (eqb (road-at t x .target) (road-at t r .source))) (list-at t (road-at t r .target))
-
--- the way into its start
-unfoldable pub way-back : Sheet → ℕ → Option ℕ
-way-back t r = first (λ x. eqb (road-at t x .target) (road-at t r .source) && not (eqb (road-at t x .source) (road-at t r .target))) (numbers t)
 
 -- the answer f to a forced way of a sheet of e roads: the road, which is one of them, or none
 abbrev pub Forces : Option ℕ → ℕ → Forced → Type 0

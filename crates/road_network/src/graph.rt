@@ -7,8 +7,8 @@ ghost use mathlib.Core.Bool.{false};
 ghost use Prim.Native.Nat.{_<_};
 ghost use Rattle.model.specs.Judge.{WellFormed};
 ghost use Rattle.model.specs.Sheet.{sheet-of};
-ghost use Rattle.model.specs.Ends.{grown, is-valid-node, forced-continuation, forced-predecessor};
-ghost use Rattle.road_network.specs.Graph.{roads-read, is-fork, Forces, way-on, way-back};
+ghost use Rattle.model.specs.Ends.{grown, is-valid-node, way-on, way-back, forced-continuation, forced-predecessor};
+ghost use Rattle.road_network.specs.Graph.{roads-read, is-fork, Forces};
 ghost use Rattle.road_network.specs.Near.{is-second, fresh, meets, meets-road, Few, is-through, has-choice};
 
 // The neighbours of a node that are met so far, or that there is a choice.

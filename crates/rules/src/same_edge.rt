@@ -9,7 +9,7 @@ ghost use Rattle.model.specs.Judge.{WellFormed};
 ghost use Rattle.model.specs.Sheet.{sheet-of};
 ghost use Rattle.model.specs.Legs.{pair, leg-pairs, close, take-close, try-same-edge-solution};
 ghost use Rattle.candidates.specs.Found.{candidates-at, no-candidate, Listed};
-ghost use Rattle.candidates.specs.Ranking.{RanksAt};
+ghost use Rattle.candidates.specs.Ranking.{ranks-size, RanksAt};
 ghost use Rattle.rules.specs.Code.{best-of, Stands};
 use crate::Best;
 use crate::routes;
@@ -60,7 +60,7 @@ fn take_ends(
     ranks: &[u8],
     before: Best,
 ) -> Best
-    requires { ⌜ WellFormed (now s) c × (set ≡ sheet-of (now s) c .settings) × Listed (now s) c starts × Listed (now s) c ends × (i < starts .count) × (1040 ≤ length (now ranks)) × RanksAt (now s) c (starts .number) (now ranks) × RanksAt (now s) c (ends .number) (now ranks) ⌝ }
+    requires { ⌜ WellFormed (now s) c × (set ≡ sheet-of (now s) c .settings) × Listed (now s) c starts × Listed (now s) c ends × (i < starts .count) × (ranks-size ≤ length (now ranks)) × RanksAt (now s) c (starts .number) (now ranks) × RanksAt (now s) c (ends .number) (now ranks) ⌝ }
     ensures { λ r. ⌜ ((roads : ℕ → Road) (area : List ℕ) → best-of roads r area ≡ fold (take-close b) (best-of roads before area) (map (pair (getD (candidates-at (sheet-of (now (s .entry)) c) (starts .number)) i no-candidate)) (take 10 (candidates-at (sheet-of (now (s .entry)) c) (ends .number))))) ⌝ }
 {
     let road = find::road_at(s, c, starts, ranks, i);
@@ -87,7 +87,7 @@ pub fn try_same_edge_solution(
     ends: Shortlist,
     ranks: &[u8],
 ) -> Best
-    requires { ⌜ WellFormed (now s) c × (set ≡ sheet-of (now s) c .settings) × Listed (now s) c starts × Listed (now s) c ends × (1040 ≤ length (now ranks)) × RanksAt (now s) c (starts .number) (now ranks) × RanksAt (now s) c (ends .number) (now ranks) ⌝ }
+    requires { ⌜ WellFormed (now s) c × (set ≡ sheet-of (now s) c .settings) × Listed (now s) c starts × Listed (now s) c ends × (ranks-size ≤ length (now ranks)) × RanksAt (now s) c (starts .number) (now ranks) × RanksAt (now s) c (ends .number) (now ranks) ⌝ }
     ensures { λ r. ⌜ Stands r (try-same-edge-solution b (leg-pairs (candidates-at (sheet-of (now (s .entry)) c) (starts .number)) (candidates-at (sheet-of (now (s .entry)) c) (ends .number)))) ⌝ }
 {
     let mut best = routes::no_best();

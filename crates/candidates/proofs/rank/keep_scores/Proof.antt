@@ -3,13 +3,13 @@ use native.Mathlib.Omega.{arith}
 use borrow.Author.Needs.{needs}
 use mathlib.Core.Path.{_≡_, refl}
 use lib.ListN.{length, length-set}
-use Rattle.candidates.proofs.RanksKept.{PartlyScored, scored-none, scored-more}
+use Rattle.candidates.proofs.RanksKept.{PartlyKept, scored-none, scored-more}
 use Rattle.candidates.proofs.rank.keep_scores.Statement.{statement}
 use Rattle.candidates.proofs.rank.keep_scores.Tie as tie
 
 abbrev Inv-loop : tie.InvT-loop
 Inv-loop scores₀ i by all count first k₀ scores k =
-    (k ≤ count) × (length scores ≡ length scores₀) × PartlyScored scores₀ scores first by k
+    (k ≤ count) × (length scores ≡ length scores₀) × PartlyKept scores₀ scores first by k
 
 abbrev μ-loop : tie.MeasureT-loop
 μ-loop scores₀ i by all count first k₀ scores k =
