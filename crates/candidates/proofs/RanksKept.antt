@@ -8,20 +8,19 @@ use lib.ListN.{length, take, drop, getD, set, length-drop, length-append, List·
 use lib.Ieee.{Float, nan}
 use lib.Seq.{getD-take, getD-drop, getD-append-add, getD-set-same, getD-set-other, length-take-le}
 use Rattle.model.specs.declared.Counts.{Counts}
-use Rattle.model.specs.declared.Settings.{Settings}
-use Rattle.model.specs.declared.Point.{Point}
 use Rattle.model.specs.declared.Candidate.{Candidate}
+use Rattle.model.specs.declared.Road.{Road}
 use Rattle.model.specs.declared.Row.{Row}
-use Rattle.model.specs.Layout.{points-bytes, rows-bytes}
+use Rattle.model.specs.Layout.{rows-bytes}
 use Rattle.model.specs.Judge.{WellFormed, row-count, rows-before, row-road}
-use Rattle.model.specs.Sheet.{point-of, row-of, sheet-of}
-use Rattle.model.specs.View.{spot-of}
-use Rattle.model.specs.Candidates.{candidate-of}
+use Rattle.model.specs.Sheet.{Sheet, row-of, sheet-of, road-at}
+use Rattle.model.specs.Candidates.{fraction, candidate-of}
 use Rattle.model.proofs.Members.{in-getD}
 use Rattle.model.proofs.RowSums.{before-next, before-le, rows-within}
 use Rattle.bounds.proofs.Choices.{below-or-not}
 use Rattle.candidates.specs.declared.find.Shortlist.{Shortlist}
-use Rattle.candidates.specs.Found.{candidates-at, OnSheet, no-candidate, Listed}
+use Rattle.candidates.specs.declared.find.Terminal.{Terminal}
+use Rattle.candidates.specs.Found.{candidates-at, OnSheet, terminal-of, candidate-as, no-candidate, Listed}
 use Rattle.candidates.specs.Ranking.{ranks-size, row-measured, Ranked, count-place, RanksAt, RanksTo, score-place, ScoresKept, ScoresTo}
 use Rattle.candidates.proofs.SheetFacts.{row-number}
 use Rattle.candidates.proofs.Gathered.{candidates-facts}
@@ -139,12 +138,19 @@ scores-next s c i rows₀ rows by n f scores₀ scores w h j l k few g = ⊎-eli
 
 -- ---- the candidates of a point, by the ranks
 
+-- what a leg reads of x, with this score
+abbrev terminal-with : Float → Candidate → Terminal
+terminal-with score x = record { road = x .road; distance = x .distance; score = score; fraction = x .fraction }
+
 module _ (s : List ℕ) (c : Counts) (i : ℕ) (ranks : List ℕ) (f : RanksAt s c i ranks) (k : ℕ) (l : k < length (candidates-at (sheet-of s c) i))
     (r : ℕ) (is : r ≡ rows-before s i + getD ranks (rows-before s i + k) 0) where
-  -- the one that is made of the row that a rank names
-  pub made-is : (set : Settings) (p : Point) → set ≡ sheet-of s c .settings → p ≡ point-of (points-bytes s c) i → (x : Candidate) → x ≡ candidate-of set p (spot-of (sheet-of s c) (row-of (rows-bytes s c) r)) → x ≡ getD (candidates-at (sheet-of s c) i) k no-candidate
-  unfolding row-measured
-  made-is set p es ep x e = rw (es, ep, is) at e ∙ f .are k l
+  -- what a leg reads of it stands in the row that a rank names, and the score that was kept of it
+  pub made-is : (w : Row) (road : Road) (score part : Float) → w ≡ row-of (rows-bytes s c) r → road ≡ road-at (sheet-of s c) (w .road) → score ≡ getD (candidates-at (sheet-of s c) i) k no-candidate .score → part ≡ fraction (w .along) (w .line)
+      → record { road = road; distance = w .distance; score = score; fraction = part } ≡ terminal-of (getD (candidates-at (sheet-of s c) i) k no-candidate)
+  unfolding row-measured candidate-of
+  made-is w road score part ew er es ep =
+      let there = getD (candidates-at (sheet-of s c) i) k no-candidate in
+      rw (ep, er, es, ew, is) (ap (λ (y : Candidate). terminal-with (there .score) y) (f .are k l))
 
   -- its distance and its road's number stand in that row
   pub distance-is : (w : Row) → w ≡ row-of (rows-bytes s c) r → w .distance ≡ getD (candidates-at (sheet-of s c) i) k no-candidate .distance
@@ -158,6 +164,9 @@ module _ (s : List ℕ) (c : Counts) (i : ℕ) (ranks : List ℕ) (f : RanksAt s
 -- each is on the sheet
 pub candidate-on : (s : List ℕ) (c : Counts) (i : ℕ) → i < c .p → WellFormed s c → (k : ℕ) → k < length (candidates-at (sheet-of s c) i) → OnSheet (sheet-of s c) c (getD (candidates-at (sheet-of s c) i) k no-candidate)
 candidate-on s c i h ok k l = candidates-facts s c i h ok .1 _ (in-getD (candidates-at (sheet-of s c) i) k no-candidate l)
+
+pub terminal-on : (t : Sheet) (c : Counts) (x : Candidate) → OnSheet t c x → OnSheet t c (candidate-as (terminal-of x))
+terminal-on t c x h = record { number = h .number; road = h .road; source = h .source; target = h .target; frc = h .frc; fow = h .fow }
 
 -- the k-th of those that a leg tries
 module _ (s : List ℕ) (c : Counts) (x : Shortlist) (ranks : List ℕ) (ok : WellFormed s c) (at : Listed s c x) (f : RanksAt s c (x .number) ranks) (k : ℕ) (h : k < x .count) where

@@ -8,12 +8,12 @@ use lib.Ieee.{nan}
 use Rattle.model.specs.declared.Counts.{Counts}
 use Rattle.model.specs.declared.Candidate.{Candidate}
 use Rattle.model.specs.Numbers.{f0}
-use Rattle.model.specs.Layout.{points-bytes}
 use Rattle.model.specs.Judge.{rows-before}
-use Rattle.model.specs.Sheet.{Stop, Sheet, road-at, point-of, sheet-of}
+use Rattle.model.specs.Sheet.{Stop, Sheet, road-at, sheet-of}
 use Rattle.model.specs.View.{place-of}
 use Rattle.model.specs.Candidates.{find-candidates}
 use Rattle.candidates.specs.declared.find.Shortlist.{Shortlist}
+use Rattle.candidates.specs.declared.find.Terminal.{Terminal}
 
 -- past the last point: a point without rows
 abbrev pub no-stop : Stop
@@ -34,6 +34,14 @@ pub record OnSheet (t : Sheet) (c : Counts) (x : Candidate) : Type 0 where
   pub frc : x .road .frc ≤ 7
   pub fow : x .road .fow ≤ 7
 
+-- what a leg reads of a candidate
+abbrev pub terminal-of : Candidate → Terminal
+terminal-of x = record { road = x .road; distance = x .distance; score = x .score; fraction = x .fraction }
+
+-- a candidate of which a leg reads x: its three differences, which made up its score, count no more
+abbrev pub candidate-as : Terminal → Candidate
+candidate-as x = record { road = x .road; distance = x .distance; «bearing_diff» = f0; «frc_diff» = 0; «fow_score» = f0; score = x .score; fraction = x .fraction }
+
 -- what stands in an array past its end
 abbrev pub no-candidate : Candidate
 no-candidate = record {
@@ -53,6 +61,5 @@ tried n = min 10 n
 -- x stands for the candidates of its point that a leg tries
 pub record Listed (s : List ℕ) (c : Counts) (x : Shortlist) : Type 0 where
   pub below : x .number < c .p
-  pub point : x .point ≡ point-of (points-bytes s c) (x .number)
   pub first : x .first ≡ rows-before s (x .number)
   pub count : x .count ≡ tried (length (candidates-at (sheet-of s c) (x .number)))

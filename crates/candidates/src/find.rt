@@ -1,25 +1,32 @@
 // The candidates of a point that a leg may try, by the lent ranks: each is made of its row when it is needed.
 use crate::rank;
-use model::Candidate;
 use model::Counts;
-use model::Point;
-use model::Settings;
+use model::Road;
+use road_network::spatial;
 use sheet::numbers;
 use sheet::points;
+use sheet::roads;
 ghost use Prim.Native.Nat.{_+_, _≤_, _<_};
 ghost use lib.ListN.{length, getD};
 ghost use mathlib.Core.Path.{_≡_};
 ghost use Rattle.model.specs.Judge.{WellFormed, rows-before};
 ghost use Rattle.model.specs.Sheet.{sheet-of};
-ghost use Rattle.candidates.specs.Found.{tried, candidates-at, no-candidate, OnSheet, Listed};
-ghost use Rattle.candidates.specs.Ranking.{ranks-size, RanksAt};
+ghost use Rattle.candidates.specs.Found.{tried, candidates-at, no-candidate, OnSheet, terminal-of, candidate-as, Listed};
+ghost use Rattle.candidates.specs.Ranking.{ranks-size, scores-size, RanksAt, ScoresAt};
 
-// A point by its number and record, its first row, and how many of its candidates a leg tries.
+// A point by its number, its first row, and how many of its candidates a leg tries.
 pub struct Shortlist {
     pub number: usize,
-    pub point: Point,
     pub first: usize,
     pub count: usize,
+}
+
+// What a leg reads of a candidate.
+pub struct Terminal {
+    pub road: Road,
+    pub distance: f64,
+    pub score: f64,
+    pub fraction: f64,
 }
 
 // A rank or a count as an index.
@@ -41,13 +48,11 @@ pub fn shortlist_of(s: &[u8], c: Counts, i: usize, ranks: &[u8]) -> Shortlist
     requires { ⌜ WellFormed (now s) c × (i < c .p) × (ranks-size ≤ length (now ranks)) × RanksAt (now s) c i (now ranks) ⌝ }
     ensures { λ x. ⌜ (x .number ≡ i) × Listed (now (s .entry)) c x ⌝ }
 {
-    let point = points::point(s, c, i);
     let first = points::first_row(s, c, i);
     let all = index(ranks[rank::COUNTS + i]);
     let count = tried(all);
     Shortlist {
         number: i,
-        point,
         first,
         count,
     }
@@ -63,20 +68,30 @@ fn row_at(s: &[u8], c: Counts, x: Shortlist, ranks: &[u8], k: usize) -> usize
     first + row
 }
 
-// The k-th candidate, with the sheet's settings.
-pub fn candidate_at(
+// What a leg reads of the k-th candidate: its score stands in the lent list, the rest of it in its row.
+pub fn terminal_at(
     s: &[u8],
     c: Counts,
-    set: Settings,
     x: Shortlist,
     ranks: &[u8],
+    scores: &[f64],
     k: usize,
-) -> Candidate
-    requires { ⌜ WellFormed (now s) c × (set ≡ sheet-of (now s) c .settings) × Listed (now s) c x × (k < x .count) × (ranks-size ≤ length (now ranks)) × RanksAt (now s) c (x .number) (now ranks) ⌝ }
-    ensures { λ y. ⌜ (y ≡ getD (candidates-at (sheet-of (now (s .entry)) c) (x .number)) k no-candidate) × OnSheet (sheet-of (now (s .entry)) c) c y ⌝ }
+) -> Terminal
+    requires { ⌜ WellFormed (now s) c × Listed (now s) c x × (k < x .count) × (ranks-size ≤ length (now ranks)) × RanksAt (now s) c (x .number) (now ranks) × (scores-size ≤ length (now scores)) × ScoresAt (now s) c (x .number) (now scores) ⌝ }
+    ensures { λ y. ⌜ (y ≡ terminal-of (getD (candidates-at (sheet-of (now (s .entry)) c) (x .number)) k no-candidate)) × OnSheet (sheet-of (now (s .entry)) c) c (candidate-as y) ⌝ }
 {
     let row = row_at(s, c, x, ranks, k);
-    rank::measured(s, c, set, x.point, row)
+    let w = points::row(s, c, row);
+    let road = w.road;
+    let r = roads::road(s, c, road);
+    let fraction = spatial::fraction(w.along, w.line);
+    let place = 10 * x.number + k;
+    Terminal {
+        road: r,
+        distance: w.distance,
+        score: scores[place],
+        fraction,
+    }
 }
 
 // The number of its road, which stands in its row.

@@ -87,7 +87,7 @@ pub fn find_best_path(
         ≡ find-best-path b (seek-at (sheet-of (now (s .entry)) c) slots b) (candidates-at (sheet-of (now (s .entry)) c) (starts .number)) (candidates-at (sheet-of (now (s .entry)) c) (ends .number)) ⌝ }
     ensures holds { λ r. ⌜ Holds (c .n) (c .e) r (now («best_route» .exit)) ⌝ }
 {
-    let same = same_edge::try_same_edge_solution(s, c, set, b, starts, ends, ranks);
+    let same = same_edge::try_same_edge_solution(s, c, b, starts, ends, ranks, scores);
     if same.found {
         let alone = routes::without_middle(same);
         return best_or_none(alone);

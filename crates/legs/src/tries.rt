@@ -3,7 +3,7 @@ use crate::middle;
 use crate::order;
 use candidates::find;
 use candidates::find::Shortlist;
-use model::Candidate;
+use candidates::find::Terminal;
 use model::Counts;
 use model::Limits;
 use model::Settings;
@@ -19,10 +19,10 @@ ghost use lib.ListN.{length};
 ghost use Rattle.model.specs.Lists.{sort};
 ghost use Rattle.model.specs.Judge.{WellFormed};
 ghost use Rattle.model.specs.Sheet.{sheet-of, road-at};
-ghost use Rattle.model.specs.Legs.{pair, leg-pairs, by-sum, try-pair, try-pairs};
+ghost use Rattle.model.specs.Legs.{leg-pairs, by-sum, try-pair, try-pairs};
 ghost use Rattle.candidates.specs.Found.{candidates-at, Listed};
 ghost use Rattle.candidates.specs.Ranking.{ranks-size, scores-size, RanksAt, ScoresAt};
-ghost use Rattle.rules.specs.Code.{best-of};
+ghost use Rattle.rules.specs.Code.{pair-as, best-of};
 ghost use Rattle.plans.specs.Turns.{turn-of};
 ghost use Rattle.search.specs.Areas.{columns, Sized};
 ghost use Rattle.legs.specs.Found.{seek-at, end-of, place-after, Fits};
@@ -33,8 +33,8 @@ pub fn try_pair(
     c: Counts,
     set: Settings,
     b: Limits,
-    start: Candidate,
-    end: Candidate,
+    start: Terminal,
+    end: Terminal,
     best: Best,
     slots: usize,
     real: &mut [f64],
@@ -50,7 +50,7 @@ pub fn try_pair(
     requires { ⌜ WellFormed (now s) c × (set ≡ sheet-of (now s) c .settings) × (start .road .target < c .n) × (end .road .source < c .n) × Fits (c .n) (c .e) best (now «best_route») ⌝ }
     requires { ⌜ (0 < slots) × (c .n ≤ length (now route)) × (c .n ≤ length (now «best_route»)) × Sized (c .n) slots (columns (now real) (now penalised) (now «came_from») (now key) (now cost) (now node) (now order) 0 0) ⌝ }
     ensures means { λ t. ⌜ turn-of (t .phase) (best-of (road-at (sheet-of (now (s .entry)) c)) (t .best) (now («best_route» .exit)))
-        ≡ try-pair b (seek-at (sheet-of (now (s .entry)) c) slots b) (best-of (road-at (sheet-of (now (s .entry)) c)) best (now («best_route» .entry))) (pair start end) ⌝ }
+        ≡ try-pair b (seek-at (sheet-of (now (s .entry)) c) slots b) (best-of (road-at (sheet-of (now (s .entry)) c)) best (now («best_route» .entry))) (pair-as start end) ⌝ }
     ensures fits { λ t. ⌜ Fits (c .n) (c .e) (t .best) (now («best_route» .exit)) ⌝ }
 {
     let p = turns::plan(b, best, start, end);
@@ -132,8 +132,8 @@ pub fn try_pairs(
         if routes::best_score(best) <= order::sum_of(scores, starts, ends, next) {
             return st;
         }
-        let first = find::candidate_at(s, c, set, starts, ranks, next.start);
-        let last = find::candidate_at(s, c, set, ends, ranks, next.end);
+        let first = find::terminal_at(s, c, starts, ranks, scores, next.start);
+        let last = find::terminal_at(s, c, ends, ranks, scores, next.end);
         st = try_pair(
             s,
             c,

@@ -6,15 +6,15 @@ ghost use Prim.Native.Nat.{ℕ};
 ghost use lib.ListN.{take};
 ghost use Rattle.model.specs.declared.Road.{Road};
 ghost use Rattle.model.specs.Numbers.{f0};
-ghost use Rattle.model.specs.Legs.{Pair, Seek, pair, best-score, asked, over, improve, middle-of, goes-on, reached, settled};
-ghost use Rattle.rules.specs.Code.{best-of};
+ghost use Rattle.model.specs.Legs.{Pair, Seek, best-score, asked, over, improve, middle-of, goes-on, reached, settled};
+ghost use Rattle.rules.specs.Code.{pair-as, best-of};
 ghost use Rattle.plans.specs.Turns.{asked-of, by-ask, found-of, count-of, renewed, Comes};
 use crate::Ask;
 use crate::Middle;
 use crate::Phase;
 use crate::Plan;
 use crate::State;
-use model::Candidate;
+use candidates::find::Terminal;
 use model::Limits;
 use road_network::road_class;
 use rules::Best;
@@ -24,8 +24,8 @@ use rules::lengths;
 use rules::routes;
 
 // What a pair asks for, with the best so far.
-pub fn plan(b: Limits, best: Best, start: Candidate, end: Candidate) -> Plan
-    ensures { λ r. ⌜ ((roads : ℕ → Road) (old : List ℕ) → asked-of roads r ≡ asked b (best-score (best-of roads best old)) (pair start end)) ⌝ }
+pub fn plan(b: Limits, best: Best, start: Terminal, end: Terminal) -> Plan
+    ensures { λ r. ⌜ ((roads : ℕ → Road) (old : List ℕ) → asked-of roads r ≡ asked b (best-score (best-of roads best old)) (pair-as start end)) ⌝ }
 {
     if routes::best_score(best) <= start.score + end.score {
         return Plan::Enough;
@@ -67,8 +67,8 @@ fn if_kept(kept: bool, offset: f64) -> f64
 }
 
 // The route over a way of n roads with this cost, if its length fits.
-fn route_over(b: Limits, start: Candidate, end: Candidate, cost: f64, n: usize) -> Best
-    ensures { λ r. ⌜ (r .route .count ≡ n) × ((roads : ℕ → Road) (area : List ℕ) → best-of roads r area ≡ over b (pair start end) cost (map roads (take n area))) ⌝ }
+fn route_over(b: Limits, start: Terminal, end: Terminal, cost: f64, n: usize) -> Best
+    ensures { λ r. ⌜ (r .route .count ≡ n) × ((roads : ℕ → Road) (area : List ℕ) → best-of roads r area ≡ over b (pair-as start end) cost (map roads (take n area))) ⌝ }
 {
     let first = start.road;
     let last = end.road;
@@ -122,8 +122,8 @@ fn take_better(best: Best, next: Best) -> State
 }
 
 // What a search leaves of the best so far, by what it found between the two roads.
-fn reach(b: Limits, start: Candidate, end: Candidate, best: Best, m: Middle) -> State
-    ensures { λ r. ⌜ Comes best r (count-of m) (λ roads old new. reached b (pair start end) (best-of roads best old) (found-of roads m new)) ⌝ }
+fn reach(b: Limits, start: Terminal, end: Terminal, best: Best, m: Middle) -> State
+    ensures { λ r. ⌜ Comes best r (count-of m) (λ roads old new. reached b (pair-as start end) (best-of roads best old) (found-of roads m new)) ⌝ }
 {
     match m {
         Middle::Found(cost, n) => {
@@ -144,8 +144,8 @@ fn reach(b: Limits, start: Candidate, end: Candidate, best: Best, m: Middle) -> 
 }
 
 // What a pair leaves of the best so far, by its plan and by what lies between its roads.
-pub fn settle(b: Limits, start: Candidate, end: Candidate, best: Best, p: Plan, m: Middle) -> State
-    ensures { λ r. ⌜ Comes best r (count-of m) (λ roads old new. settled b (pair start end) (best-of roads best old) (asked-of roads p) (found-of roads m new)) ⌝ }
+pub fn settle(b: Limits, start: Terminal, end: Terminal, best: Best, p: Plan, m: Middle) -> State
+    ensures { λ r. ⌜ Comes best r (count-of m) (λ roads old new. settled b (pair-as start end) (best-of roads best old) (asked-of roads p) (found-of roads m new)) ⌝ }
 {
     match p {
         Plan::Enough => State {

@@ -3,6 +3,7 @@ ghost use mathlib.Core.Path.{_≡_};
 ghost use Prim.Native.Nat.{_≤_};
 ghost use Rattle.model.specs.Candidates.{same-bytes, is-access-road, substitution-score, class-difference};
 ghost use Rattle.model.specs.View.{raised, allows};
+ghost use Rattle.road_network.specs.Forms.{entry-score};
 use model::Road;
 
 // Whether two slices hold the same bytes.
@@ -32,17 +33,33 @@ pub fn is_access_road(tag: &[u8]) -> bool
         || same_bytes(tag, b"track")
 }
 
-// Rows: the point's form of way. Columns: the road's.
-const FOW_SCORE_MATRIX: [[f64; 8]; 8] = [
-    [0.50, 0.50, 0.50, 0.50, 0.50, 0.50, 0.50, 0.50],
-    [0.50, 1.00, 0.75, 0.00, 0.00, 0.00, 0.00, 0.00],
-    [0.50, 0.75, 1.00, 0.75, 0.50, 0.00, 0.00, 0.00],
-    [0.50, 0.00, 0.75, 1.00, 0.50, 0.50, 0.00, 0.00],
-    [0.50, 0.00, 0.50, 0.50, 1.00, 0.50, 0.00, 0.00],
-    [0.50, 0.00, 0.00, 0.50, 0.50, 1.00, 0.00, 0.00],
-    [0.50, 0.00, 0.00, 0.00, 0.00, 0.00, 1.00, 0.00],
-    [0.50, 0.00, 0.00, 0.00, 0.00, 0.00, 0.00, 1.00],
+// Rows: the point's form of way. Columns: the road's. 0, 1, 2 and 3 stand for 0, 0.5, 0.75 and 1: a table of bytes, since one of f64 would be laid out on the stack at every call.
+const FOW_SCORE_MATRIX: [[u8; 8]; 8] = [
+    [1, 1, 1, 1, 1, 1, 1, 1],
+    [1, 3, 2, 0, 0, 0, 0, 0],
+    [1, 2, 3, 2, 1, 0, 0, 0],
+    [1, 0, 2, 3, 1, 1, 0, 0],
+    [1, 0, 1, 1, 3, 1, 0, 0],
+    [1, 0, 0, 1, 1, 3, 0, 0],
+    [1, 0, 0, 0, 0, 0, 3, 0],
+    [1, 0, 0, 0, 0, 0, 0, 3],
 ];
+
+// The score that an entry of the table stands for.
+fn entry_score(entry: u8) -> f64
+    ensures { λ r. ⌜ r ≡ entry-score entry ⌝ }
+{
+    if entry == 0 {
+        return 0.0;
+    }
+    if entry == 1 {
+        return 0.5;
+    }
+    if entry == 2 {
+        return 0.75;
+    }
+    1.0
+}
 
 // How well a road of the actual form of way stands in for the wanted one; 0 for a number that is no form of way.
 pub fn substitution_score(wanted: u8, actual: u8) -> f64
@@ -54,7 +71,8 @@ pub fn substitution_score(wanted: u8, actual: u8) -> f64
     if actual > 7 {
         return 0.0;
     }
-    FOW_SCORE_MATRIX[wanted as usize][actual as usize]
+    let entry = FOW_SCORE_MATRIX[wanted as usize][actual as usize];
+    entry_score(entry)
 }
 
 // The signed difference of two class numbers, made positive. Classes are 0 to 7, where the i8 is exact from -7 to 7.

@@ -7,10 +7,16 @@ use lib.ListN.{take}
 use Rattle.model.specs.declared.Road.{Road}
 use Rattle.model.specs.Lists.{when}
 use Rattle.model.specs.Legs as legs
-use Rattle.model.specs.Legs.{Coverage, Scored, terminal, whole}
+use Rattle.model.specs.Legs.{Coverage, Scored, Pair, pair, terminal, whole}
+use Rattle.candidates.specs.declared.find.Terminal.{Terminal}
+use Rattle.candidates.specs.Found.{candidate-as}
 use Rattle.rules.specs.declared.Part.{Part}
 use Rattle.rules.specs.declared.Route.{Route}
 use Rattle.rules.specs.declared.Best.{Best}
+
+-- the pair of which a leg reads these
+abbrev pub pair-as : Terminal → Terminal → Pair
+pair-as start end = pair (candidate-as start) (candidate-as end)
 
 abbrev pub part-of : Part → List Coverage
 part-of p = terminal (p .kept) (p .road) (p .metres)

@@ -1,28 +1,30 @@
 // Lengths, offsets and scores of the routes between a start and an end candidate.
 ghost use mathlib.Core.Path.{_≡_};
-ghost use Rattle.model.specs.Legs.{pair, score-of, excellent, effective-min, effective-max, length-alone, fits-alone, start-offset, end-offset, length-over, fits-over, stays, middle-max};
+ghost use Rattle.model.specs.Legs.{score-of, excellent, effective-min, effective-max, length-alone, fits-alone, start-offset, end-offset, length-over, fits-over, stays, middle-max};
+ghost use Rattle.candidates.specs.Found.{candidate-as};
+ghost use Rattle.rules.specs.Code.{pair-as};
 use crate::floats;
-use model::Candidate;
+use candidates::find::Terminal;
 use model::Limits;
 use road_network::spatial;
 
 // The metres from the start of the candidate's road to its point.
-pub fn start_offset(x: Candidate) -> f64
-    ensures { λ r. ⌜ r ≡ start-offset x ⌝ }
+pub fn start_offset(x: Terminal) -> f64
+    ensures { λ r. ⌜ r ≡ start-offset (candidate-as x) ⌝ }
 {
     x.road.metres * x.fraction
 }
 
 // The metres from its point to the end of its road.
-pub fn end_offset(x: Candidate) -> f64
-    ensures { λ r. ⌜ r ≡ end-offset x ⌝ }
+pub fn end_offset(x: Terminal) -> f64
+    ensures { λ r. ⌜ r ≡ end-offset (candidate-as x) ⌝ }
 {
     x.road.metres * (1.0 - x.fraction)
 }
 
 // The candidates' scores and the length penalty of a route with this total length.
-pub fn score_of(b: Limits, start: Candidate, end: Candidate, total: f64) -> f64
-    ensures { λ r. ⌜ r ≡ score-of b (pair start end) total ⌝ }
+pub fn score_of(b: Limits, start: Terminal, end: Terminal, total: f64) -> f64
+    ensures { λ r. ⌜ r ≡ score-of b (pair-as start end) total ⌝ }
 {
     let difference = spatial::abs(total - b.dnp);
     let divisor = floats::max(b.dnp, 1.0);
@@ -32,22 +34,22 @@ pub fn score_of(b: Limits, start: Candidate, end: Candidate, total: f64) -> f64
 // ---- both points on one road
 
 // An excellent match: both points strictly nearer than 5 metres.
-pub fn excellent(start: Candidate, end: Candidate) -> bool
-    ensures { λ r. ⌜ r ≡ excellent (pair start end) ⌝ }
+pub fn excellent(start: Terminal, end: Terminal) -> bool
+    ensures { λ r. ⌜ r ≡ excellent (pair-as start end) ⌝ }
 {
     start.distance < 5.0 && end.distance < 5.0
 }
 
 // The least length; an excellent match has none.
-pub fn effective_min(b: Limits, start: Candidate, end: Candidate) -> f64
-    ensures { λ r. ⌜ r ≡ effective-min b (pair start end) ⌝ }
+pub fn effective_min(b: Limits, start: Terminal, end: Terminal) -> f64
+    ensures { λ r. ⌜ r ≡ effective-min b (pair-as start end) ⌝ }
 {
     if excellent(start, end) { 0.0 } else { b.least }
 }
 
 // The greatest length; an excellent match has three times as much.
-pub fn effective_max(b: Limits, start: Candidate, end: Candidate) -> f64
-    ensures { λ r. ⌜ r ≡ effective-max b (pair start end) ⌝ }
+pub fn effective_max(b: Limits, start: Terminal, end: Terminal) -> f64
+    ensures { λ r. ⌜ r ≡ effective-max b (pair-as start end) ⌝ }
 {
     if excellent(start, end) {
         b.greatest * 3.0
@@ -57,15 +59,15 @@ pub fn effective_max(b: Limits, start: Candidate, end: Candidate) -> f64
 }
 
 // The metres between the two points on the start's road.
-pub fn length_alone(start: Candidate, end: Candidate) -> f64
-    ensures { λ r. ⌜ r ≡ length-alone (pair start end) ⌝ }
+pub fn length_alone(start: Terminal, end: Terminal) -> f64
+    ensures { λ r. ⌜ r ≡ length-alone (pair-as start end) ⌝ }
 {
     start.road.metres * (end.fraction - start.fraction)
 }
 
 // Whether the way from the start to the end on their road is a route.
-pub fn fits_alone(b: Limits, start: Candidate, end: Candidate) -> bool
-    ensures { λ r. ⌜ r ≡ fits-alone b (pair start end) ⌝ }
+pub fn fits_alone(b: Limits, start: Terminal, end: Terminal) -> bool
+    ensures { λ r. ⌜ r ≡ fits-alone b (pair-as start end) ⌝ }
 {
     if end.fraction - start.fraction <= 0.0 {
         return false;
@@ -81,8 +83,8 @@ pub fn fits_alone(b: Limits, start: Candidate, end: Candidate) -> bool
 // ---- a route over several roads
 
 // The whole length, with this cost between the two roads.
-pub fn length_over(start: Candidate, end: Candidate, cost: f64) -> f64
-    ensures { λ r. ⌜ r ≡ length-over (pair start end) cost ⌝ }
+pub fn length_over(start: Terminal, end: Terminal, cost: f64) -> f64
+    ensures { λ r. ⌜ r ≡ length-over (pair-as start end) cost ⌝ }
 {
     let start_part = end_offset(start);
     let end_part = start_offset(end);
@@ -110,8 +112,8 @@ pub fn stays(part: f64, total: f64) -> bool
 }
 
 // How far a search between the two roads may go.
-pub fn middle_max(b: Limits, start: Candidate, end: Candidate) -> f64
-    ensures { λ r. ⌜ r ≡ middle-max b (pair start end) ⌝ }
+pub fn middle_max(b: Limits, start: Terminal, end: Terminal) -> f64
+    ensures { λ r. ⌜ r ≡ middle-max b (pair-as start end) ⌝ }
 {
     let start_part = end_offset(start);
     let end_part = start_offset(end);

@@ -5,13 +5,13 @@ ghost use mathlib.Core.Option.{none};
 ghost use mathlib.Core.List.{List, []};
 ghost use Prim.Native.Nat.{ℕ};
 ghost use Rattle.model.specs.declared.Road.{Road};
-ghost use Rattle.model.specs.Legs.{pair, on-one-road, best-score, improve, first-or-better};
-ghost use Rattle.rules.specs.Code.{best-of, Stands};
+ghost use Rattle.model.specs.Legs.{on-one-road, best-score, improve, first-or-better};
+ghost use Rattle.rules.specs.Code.{pair-as, best-of, Stands};
 use crate::Best;
 use crate::Part;
 use crate::Route;
 use crate::lengths;
-use model::Candidate;
+use candidates::find::Terminal;
 use model::Limits;
 use model::Road;
 
@@ -49,8 +49,8 @@ pub fn no_best() -> Best
 }
 
 // The route of a pair on the start's road, if its length fits.
-pub fn on_one_road(b: Limits, start: Candidate, end: Candidate) -> Best
-    ensures { λ r. ⌜ Stands r (on-one-road b (pair start end)) ⌝ }
+pub fn on_one_road(b: Limits, start: Terminal, end: Terminal) -> Best
+    ensures { λ r. ⌜ Stands r (on-one-road b (pair-as start end)) ⌝ }
 {
     let road = start.road;
     let total = lengths::length_alone(start, end);

@@ -1,8 +1,8 @@
+use Rattle.rules.specs.Code.{pair-as}
 use Rattle.legs.proofs.Middles.{spans-roads, fits-on}
 use Rattle.legs.specs.Found.{seek-at}
 use Rattle.plans.proofs.Trying.{one-pair}
 use Rattle.plans.specs.Turns.{count-of}
-use Rattle.model.specs.Legs.{pair}
 use Rattle.model.specs.Sheet.{sheet-of, road-at}
 use lib.ListN.{length}
 use native.Mathlib.Omega.{arith}
@@ -68,7 +68,7 @@ returns c = let a = c .before .before .before .before .before .before .before .b
     let r = spans-roads _ _ (m .result) _ (omega (arith, p .0 .2)) (m .ensures .1) in
     let fit : count-of (m .result) ≤ length new = omega (arith, r .0, p .1 .1, m .kept .1 .1 .1 .1 .1 .1 .1 .1 .1 .1 .1 .0) in
     rw (c .before .before .keep-roads .ensures) (
-      one-pair (a .b) (pair (a .start) (a .end)) (a .best) (c .before .before .before .before .before .before .before .before .before .before .before .before .before .before .before .before .before .before .before .before .before .before .before .before .before .before .before .before .before .before .before .before .plan .result) (c .before .before .before .before .before .before .before .before .before .before .before .before .before .before .before .before .before .before .before .before .before .before .before .before .before .before .before .before .before .before .before .ask .result) (m .result) (t .result) (c .before .before .before .before .before .before .before .before .before .before .before .before .before .before .before .before .before .before .before .before .before .before .before .before .before .before .before .before .before .before .before .before .plan .ensures) (c .before .before .before .before .before .before .before .before .before .before .before .before .before .before .before .before .before .before .before .before .before .before .before .before .before .before .before .before .before .before .before .ask .ensures) (t .ensures) (road-at sh) (seek-at sh (a .slots) (a .b)) old new fit (m .ensures .0),
+      one-pair (a .b) (pair-as (a .start) (a .end)) (a .best) (c .before .before .before .before .before .before .before .before .before .before .before .before .before .before .before .before .before .before .before .before .before .before .before .before .before .before .before .before .before .before .before .before .plan .result) (c .before .before .before .before .before .before .before .before .before .before .before .before .before .before .before .before .before .before .before .before .before .before .before .before .before .before .before .before .before .before .before .ask .result) (m .result) (t .result) (c .before .before .before .before .before .before .before .before .before .before .before .before .before .before .before .before .before .before .before .before .before .before .before .before .before .before .before .before .before .before .before .before .plan .ensures) (c .before .before .before .before .before .before .before .before .before .before .before .before .before .before .before .before .before .before .before .before .before .before .before .before .before .before .before .before .before .before .before .ask .ensures) (t .ensures) (road-at sh) (seek-at sh (a .slots) (a .b)) old new fit (m .ensures .0),
       fits-on (a .c .n) (a .c .e) (a .best) (t .result) (count-of (m .result)) new old (t .ensures .few) fit r (p .0 .4) (t .ensures .middle),
     )
 

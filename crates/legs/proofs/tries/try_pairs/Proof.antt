@@ -3,13 +3,14 @@ use lib.ListN.{getD}
 use Rattle.rules.specs.Code.{best-of}
 use Rattle.model.specs.Numbers.{_≤ᶠ_}
 use mathlib.Core.Bool.{true}
-use mathlib.Core.Path.{_≡_, sym, _∙_}
+use mathlib.Core.Path.{_≡_, ap, _∙_}
 use native.Mathlib.Omega.{arith}
 use borrow.Author.Needs.{needs}
 use Rattle.model.specs.Sheet.{sheet-of, road-at}
 use Rattle.model.specs.Legs.{pair, best-score}
 use Rattle.rules.proofs.OneRoad.{ten-at}
-use Rattle.candidates.specs.Found.{candidates-at, no-candidate}
+use Rattle.rules.proofs.Read.{try-read}
+use Rattle.candidates.specs.Found.{candidates-at, no-candidate, terminal-of}
 use Rattle.search.specs.Areas.{columns}
 use Rattle.search.proofs.Growth.{sized-on, sizes-on}
 use Rattle.legs.specs.Found.{seek-at}
@@ -92,15 +93,15 @@ returns c = let p = c .before .before .before .before .before .before .before .b
     let reached : best-score (best-of roads (loop .st .best) (loop .best-route)) ≤ᶠ pair x y .sum ≡ true = rw (c .before .before .best-score .ensures roads (loop .best-route), sum) at (c .if1 .taken) in
     (good-enough _ _ _ _ _ _ _ (order-long s n (a .starts) (a .ends) (p .2) (p .3)) _ _ _ (loop .inv .1) (c .before .before .before .before .before .before .before .loop-test .taken) (pair x y) d there reached, loop .inv .1 .fits)
 
-candidate-at-requires : tie.Need-candidate-at-requires Inv-loop μ-loop
-candidate-at-requires c κs = let p = c .before .before .before .before .before .before .before .before .before .before .before .before .before .before .before .before .before .before .before .before .before .before .before .before .pre .0 in (p .0, p .1, p .2, c .before .before .before .before .before .next-pair .ensures .0, p .4, p .5)
+terminal-at-requires : tie.Need-terminal-at-requires Inv-loop μ-loop
+terminal-at-requires c κs = let p = c .before .before .before .before .before .before .before .before .before .before .before .before .before .before .before .before .before .before .before .before .before .before .before .before .pre .0 in (p .0, p .2, c .before .before .before .before .before .next-pair .ensures .0, p .4, p .5, p .7, p .8)
 
-candidate-at-requires-2 : tie.Need-candidate-at-requires-2 Inv-loop μ-loop
-candidate-at-requires-2 c κs = let p = c .before .before .before .before .before .before .before .before .before .before .before .before .before .before .before .before .before .before .before .before .before .before .before .before .before .pre .0 in (p .0, p .1, p .3, c .before .before .before .before .before .before .next-pair .ensures .1, p .4, p .6)
+terminal-at-requires-2 : tie.Need-terminal-at-requires-2 Inv-loop μ-loop
+terminal-at-requires-2 c κs = let p = c .before .before .before .before .before .before .before .before .before .before .before .before .before .before .before .before .before .before .before .before .before .before .before .before .before .pre .0 in (p .0, p .3, c .before .before .before .before .before .before .next-pair .ensures .1, p .4, p .6, p .7, p .9)
 
 try-pair-requires : tie.Need-try-pair-requires Inv-loop μ-loop
 try-pair-requires c κs = let p = c .before .before .before .before .before .before .before .before .before .before .before .before .before .before .before .before .before .before .before .before .before .before .before .before .before .before .before .before .before .before .before .before .before .before .before .pre in let kept = c .before .before .before .before .before .before .before .before .before .before .before .before .before .before .before .before .before .before .before .loop .inv .0 in
-    ((p .0 .0, p .0 .1, c .before .before .before .before .before .before .before .before .before .before .candidate-at .ensures .1 .target, c .before .before .before .before .before .before .before .before .before .candidate-at2 .ensures .1 .source, c .before .before .before .before .before .before .before .before .before .before .before .before .before .before .before .before .before .before .before .loop .inv .1 .fits), (p .1 .0, omega (arith, kept .route, p .1 .1), omega (arith, kept .best-route, p .1 .2), sized-on (p .1 .3) (kept .sizes)))
+    ((p .0 .0, p .0 .1, c .before .before .before .before .before .before .before .before .before .before .terminal-at .ensures .1 .target, c .before .before .before .before .before .before .before .before .before .terminal-at2 .ensures .1 .source, c .before .before .before .before .before .before .before .before .before .before .before .before .before .before .before .before .before .before .before .loop .inv .1 .fits), (p .1 .0, omega (arith, kept .route, p .1 .1), omega (arith, kept .best-route, p .1 .2), sized-on (p .1 .3) (kept .sizes)))
 
 next-place-requires : tie.Need-next-place-requires Inv-loop μ-loop
 next-place-requires c κs = let p = c .before .before .before .before .before .before .before .before .before .before .before .before .before .before .before .before .before .before .before .before .before .before .before .before .before .before .before .before .before .before .before .before .before .before .before .before .before .before .before .before .before .before .before .before .before .before .before .before .before .before .before .before .before .before .pre .0 in let a = c .before .before .before .before .before .before .before .before .before .before .before .before .before .before .before .before .before .before .before .before .before .before .before .before .before .before .before .before .before .before .before .before .before .before .before .before .before .before .before .before .before .before .before .before .before .before .before .before .before .before .before .before .before .before .args in (c .before .before .before .before .before .before .before .before .before .before .before .before .before .before .before .before .before .before .before .before .before .before .before .before .before .before .before .before .before .before .before .before .before .before .before .before .before .loop-test .taken, few (a .s .now) (a .c) (a .starts) (a .ends) (p .2) (p .3))
@@ -116,19 +117,21 @@ loop-again c = let p = c .before .before .before .before .before .before .before
     let next = c .before .before .before .before .before .before .before .before .before .before .before .before .before .before .before .before .before .before .before .try-pair .last .1 .1 .1 .1 .1 .1 .1 .1 .1 .1 .1 .1 .0 in
     let long = order-long s n (a .starts) (a .ends) (p .2) (p .3) in
     let d = pair no-candidate no-candidate in
-    let x : c .before .before .before .before .before .before .before .before .before .before .before .before .before .before .before .before .before .before .before .before .before .before .before .before .before .before .before .before .before .before .candidate-at .result ≡ getD (firsts s n (a .starts)) (c .before .before .before .before .before .before .before .before .before .before .before .before .before .before .before .before .before .before .before .before .before .before .before .before .before .before .before .before .before .before .before .before .before .before .before .before .next-pair .result .start) no-candidate = c .before .before .before .before .before .before .before .before .before .before .before .before .before .before .before .before .before .before .before .before .before .before .before .before .before .before .before .before .before .before .candidate-at .ensures .0 ∙ ten-at (candidates-at (sheet-of s n) (a .starts .number)) (a .starts .count) (p .2 .count) (c .before .before .before .before .before .before .before .before .before .before .before .before .before .before .before .before .before .before .before .before .before .before .before .before .before .before .before .before .before .before .before .before .before .before .before .before .next-pair .result .start) (c .before .before .before .before .before .before .before .before .before .before .before .before .before .before .before .before .before .before .before .before .before .before .before .before .before .before .before .before .before .before .before .before .before .before .before .before .next-pair .ensures .0) in
-    let y : c .before .before .before .before .before .before .before .before .before .before .before .before .before .before .before .before .before .before .before .before .before .before .before .before .before .before .before .before .before .candidate-at2 .result ≡ getD (firsts s n (a .ends)) (c .before .before .before .before .before .before .before .before .before .before .before .before .before .before .before .before .before .before .before .before .before .before .before .before .before .before .before .before .before .before .before .before .before .before .before .before .next-pair .result .end) no-candidate = c .before .before .before .before .before .before .before .before .before .before .before .before .before .before .before .before .before .before .before .before .before .before .before .before .before .before .before .before .before .candidate-at2 .ensures .0 ∙ ten-at (candidates-at (sheet-of s n) (a .ends .number)) (a .ends .count) (p .3 .count) (c .before .before .before .before .before .before .before .before .before .before .before .before .before .before .before .before .before .before .before .before .before .before .before .before .before .before .before .before .before .before .before .before .before .before .before .before .next-pair .result .end) (c .before .before .before .before .before .before .before .before .before .before .before .before .before .before .before .before .before .before .before .before .before .before .before .before .before .before .before .before .before .before .before .before .before .before .before .before .next-pair .ensures .1) in
-    let is = rw (sym x, sym y) at (c .before .before .before .before .before .before .before .before .before .before .before .before .before .before .before .before .before .before .before .before .before .before .before .before .before .before .before .before .before .before .before .before .before .before .before .before .next-pair .ensures .2 (firsts s n (a .starts)) (firsts s n (a .ends)) (scored s n (a .starts) (a .ends) (p .2) (p .3) (p .0) (a .scores .now) (p .8) (p .9))) in
+    let x = getD (firsts s n (a .starts)) (c .before .before .before .before .before .before .before .before .before .before .before .before .before .before .before .before .before .before .before .before .before .before .before .before .before .before .before .before .before .before .before .before .before .before .before .before .next-pair .result .start) no-candidate in
+    let first : c .before .before .before .before .before .before .before .before .before .before .before .before .before .before .before .before .before .before .before .before .before .before .before .before .before .before .before .before .before .before .terminal-at .result ≡ terminal-of x = c .before .before .before .before .before .before .before .before .before .before .before .before .before .before .before .before .before .before .before .before .before .before .before .before .before .before .before .before .before .before .terminal-at .ensures .0 ∙ ap terminal-of (ten-at (candidates-at (sheet-of s n) (a .starts .number)) (a .starts .count) (p .2 .count) (c .before .before .before .before .before .before .before .before .before .before .before .before .before .before .before .before .before .before .before .before .before .before .before .before .before .before .before .before .before .before .before .before .before .before .before .before .next-pair .result .start) (c .before .before .before .before .before .before .before .before .before .before .before .before .before .before .before .before .before .before .before .before .before .before .before .before .before .before .before .before .before .before .before .before .before .before .before .before .next-pair .ensures .0)) in
+    let y = getD (firsts s n (a .ends)) (c .before .before .before .before .before .before .before .before .before .before .before .before .before .before .before .before .before .before .before .before .before .before .before .before .before .before .before .before .before .before .before .before .before .before .before .before .next-pair .result .end) no-candidate in
+    let last : c .before .before .before .before .before .before .before .before .before .before .before .before .before .before .before .before .before .before .before .before .before .before .before .before .before .before .before .before .before .terminal-at2 .result ≡ terminal-of y = c .before .before .before .before .before .before .before .before .before .before .before .before .before .before .before .before .before .before .before .before .before .before .before .before .before .before .before .before .before .terminal-at2 .ensures .0 ∙ ap terminal-of (ten-at (candidates-at (sheet-of s n) (a .ends .number)) (a .ends .count) (p .3 .count) (c .before .before .before .before .before .before .before .before .before .before .before .before .before .before .before .before .before .before .before .before .before .before .before .before .before .before .before .before .before .before .before .before .before .before .before .before .next-pair .result .end) (c .before .before .before .before .before .before .before .before .before .before .before .before .before .before .before .before .before .before .before .before .before .before .before .before .before .before .before .before .before .before .before .before .before .before .before .before .next-pair .ensures .1)) in
+    let is = c .before .before .before .before .before .before .before .before .before .before .before .before .before .before .before .before .before .before .before .before .before .before .before .before .before .before .before .before .before .before .before .before .before .before .before .before .next-pair .ensures .2 (firsts s n (a .starts)) (firsts s n (a .ends)) (scored s n (a .starts) (a .ends) (p .2) (p .3) (p .0) (a .scores .now) (p .8) (p .9)) in
     let heads = c .before .before .before .before .before .before .before .before .before .before .before .before .before .before .before .before .before .before .before .before .before .before .before .before .before .before .before .before .before .before .before .before .before .before .before .before .next-pair .last .1 .1 .1 .0 in
     let ten-heads = c .before .before .before .before .before .before .before .before .before .before .before .before .before .before .before .before .before .before .before .before .before .before .before .before .before .before .before .before .before .before .before .before .before .before .before .before .next-pair .kept .1 .1 .1 .0 ∙ loop .inv .2 .long in
-    let there = pair-there s n (a .starts) (a .ends) (p .2) (p .3) (loop .t) (c .before .before .before .before .before .before .before .before .before .before .before .before .before .before .before .before .before .before .before .before .before .before .before .before .before .before .before .before .before .before .before .before .before .before .before .before .before .before .loop-test .taken) (loop .heads) (loop .inv .2) (c .before .before .before .before .before .before .before .before .before .before .before .before .before .before .before .before .before .before .before .before .before .before .before .before .before .before .before .before .before .before .candidate-at .result) (c .before .before .before .before .before .before .before .before .before .before .before .before .before .before .before .before .before .before .before .before .before .before .before .before .before .before .before .before .before .candidate-at2 .result) heads ten-heads is d in (
+    let there = pair-there s n (a .starts) (a .ends) (p .2) (p .3) (loop .t) (c .before .before .before .before .before .before .before .before .before .before .before .before .before .before .before .before .before .before .before .before .before .before .before .before .before .before .before .before .before .before .before .before .before .before .before .before .before .before .loop-test .taken) (loop .heads) (loop .inv .2) x y heads ten-heads is d in (
       record {
         sizes = sizes-on (loop .inv .0 .sizes) record { real = k .0; penalised = k .1 .0; came = k .1 .1 .0; key = k .1 .1 .1 .1 .1 .0; cost = k .1 .1 .1 .1 .1 .1 .0; node = k .1 .1 .1 .1 .1 .1 .1 .0; order = k .1 .1 .1 .1 .1 .1 .1 .1 .0 };
         route = k .1 .1 .1 .0 ∙ loop .inv .0 .route;
         best-route = k .1 .1 .1 .1 .0 ∙ loop .inv .0 .best-route;
       },
-      rw (c .next-place .ensures) (good-turn _ _ _ _ _ _ _ long _ _ _ (loop .inv .1) (c .before .before .before .before .before .before .before .before .before .before .before .before .before .before .before .before .before .before .before .before .before .before .before .before .before .before .before .before .before .before .before .before .before .before .before .before .before .before .loop-test .taken) _ d there (c .before .before .before .before .before .before .before .before .before .before .before .before .before .before .before .before .before .before .before .try-pair .result) next (c .before .before .before .before .before .before .before .before .before .before .before .before .before .before .before .before .before .before .before .try-pair .ensures .0) (c .before .before .before .before .before .before .before .before .before .before .before .before .before .before .before .before .before .before .before .try-pair .ensures .1)),
-      rw (c .next-place .ensures) (heads-next s n (a .starts) (a .ends) (p .2) (p .3) (loop .t) (c .before .before .before .before .before .before .before .before .before .before .before .before .before .before .before .before .before .before .before .before .before .before .before .before .before .before .before .before .before .before .before .before .before .before .before .before .before .before .loop-test .taken) (loop .heads) (loop .inv .2) (c .before .before .before .before .before .before .before .before .before .before .before .before .before .before .before .before .before .before .before .before .before .before .before .before .before .before .before .before .before .before .candidate-at .result) (c .before .before .before .before .before .before .before .before .before .before .before .before .before .before .before .before .before .before .before .before .before .before .before .before .before .before .before .before .before .candidate-at2 .result) heads ten-heads is (c .before .before .before .before .before .before .before .before .before .before .before .before .before .before .before .before .before .before .before .try-pair .result .phase)),
+      rw (c .next-place .ensures) (good-turn _ _ _ _ _ _ _ long _ _ _ (loop .inv .1) (c .before .before .before .before .before .before .before .before .before .before .before .before .before .before .before .before .before .before .before .before .before .before .before .before .before .before .before .before .before .before .before .before .before .before .before .before .before .before .loop-test .taken) _ d there (c .before .before .before .before .before .before .before .before .before .before .before .before .before .before .before .before .before .before .before .try-pair .result) next (c .before .before .before .before .before .before .before .before .before .before .before .before .before .before .before .before .before .before .before .try-pair .ensures .0 ∙ rw (first, last) (try-read (a .b) _ x y _)) (c .before .before .before .before .before .before .before .before .before .before .before .before .before .before .before .before .before .before .before .try-pair .ensures .1)),
+      rw (c .next-place .ensures) (heads-next s n (a .starts) (a .ends) (p .2) (p .3) (loop .t) (c .before .before .before .before .before .before .before .before .before .before .before .before .before .before .before .before .before .before .before .before .before .before .before .before .before .before .before .before .before .before .before .before .before .before .before .before .before .before .loop-test .taken) (loop .heads) (loop .inv .2) x y heads ten-heads is (c .before .before .before .before .before .before .before .before .before .before .before .before .before .before .before .before .before .before .before .try-pair .result .phase)),
     )
 
 same-length-10 : tie.Need-same-length-10 Inv-loop μ-loop
@@ -186,8 +189,8 @@ try-pairs-spec =
     same-length-8
     same-length-9
     returns
-    candidate-at-requires
-    candidate-at-requires-2
+    terminal-at-requires
+    terminal-at-requires-2
     try-pair-requires
     next-place-requires
     loop-less
