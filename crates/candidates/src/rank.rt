@@ -19,7 +19,7 @@ ghost use Rattle.candidates.specs.Found.{candidates-at};
 ghost use Rattle.candidates.specs.Ranking.{ranks-size, scores-size, Put, Ranked, RanksTo, ScoresKept, ScoresTo};
 
 // The candidate of row k of the sheet, measured for the point p.
-pub fn measured(s: &[u8], c: Counts, set: Settings, p: Point, k: usize) -> Candidate
+fn measured(s: &[u8], c: Counts, set: Settings, p: Point, k: usize) -> Candidate
     requires { ⌜ WellFormed (now s) c × (k < c .m) × (p .frc ≤ 7) ⌝ }
     ensures { λ x. ⌜ x ≡ candidate-of set p (spot-of (sheet-of (now (s .entry)) c) (row-of (rows-bytes (now (s .entry)) c) k)) ⌝ }
 {
