@@ -1,5 +1,5 @@
 -- What is written of a leg's roads: behind a first road that is skipped, one by one.
-use Prim.Native.Nat.{ℕ, zero, suc, _+_, _-_, _≤_, _<_}
+use Prim.Native.Nat.{ℕ, _+_, _-_, _≤_, _<_}
 use mathlib.Core.Path.{_≡_, refl, sym, ap, _∙_}
 use mathlib.Core.Option.{Option, none, some}
 use mathlib.Core.List.{List, [], _∷_}
@@ -17,16 +17,6 @@ use Rattle.courses.specs.Left.{fresh}
 pub last-none : (ids : List ℕ) (n : ℕ) → n ≡ 0 → none ≡ last (take n ids)
 unfolding last
 last-none ids n e = rw e
-
-last-suc : (ids : List ℕ) (n : ℕ) → n < length ids → some (getD ids n 0) ≡ last (take (suc n) ids)
-unfolding last
-last-suc [] n h = absurd (omega arith)
-last-suc (x ∷ xs) zero h = refl
-last-suc (x ∷ []) (suc n) h = absurd (omega arith)
-last-suc (x ∷ y ∷ ys) (suc n) h = last-suc (y ∷ ys) n (omega arith)
-
-pub last-some : (ids : List ℕ) (n : ℕ) → (n ≡ 0 → ⊥) → n ≤ length ids → some (getD ids (n - 1) 0) ≡ last (take n ids)
-last-some ids n z h = last-suc ids (n - 1) (omega arith) ∙ ap (λ (k : ℕ). last (take k ids)) {x = suc (n - 1)} {y = n} (omega arith)
 
 -- ---- the first road, skipped or not
 

@@ -12,7 +12,8 @@ use Rattle.model.specs.Sheet.{Sheet, road-at}
 use Rattle.model.specs.Ends.{End, Ends, at-end, at-start, extend-ends, part-of, offset-fraction}
 use Rattle.ends.specs.Whole.{Grows, Finished}
 use Rattle.ends.specs.declared.Grown.{Grown}
-use Rattle.ends.proofs.Grow.{last-part, head-is}
+use Rattle.model.proofs.Members.{last-part}
+use Rattle.ends.proofs.Grow.{head-is}
 
 module _ (t : Sheet) (sc ec so eo : Float) (p n e : ℕ) (ids₀ ids₁ ids₂ : List ℕ) {F B : Grown} (fits : p + 4 * n ≤ length ids₀)
     (f : Grows (at-end t ec (record { path = take p ids₀; offset = eo })) e (p + 2 * n) ids₁ F)

@@ -7,13 +7,13 @@ use mathlib.Core.Bool.{Bool, true, false, cond}
 use mathlib.Core.Option.{none, some}
 use mathlib.Core.List.{List, [], _∷_, _++_, reverse, reverse-append, reverse-reverse, append-assoc, List·Memᴰ·append-cases, Memᴰ·append-left, Memᴰ·append-right}
 use lib.ListN.{length, getD, take, drop, length-append, length-reverse}
-use lib.Seq.{take-suc, drop-append-le, length-take-le, getD-take, take-at, drop-at, length-slice}
+use lib.Seq.{length-take-le, getD-take, take-at, drop-at, length-slice}
 use lib.Ieee.{Float}
 use Rattle.model.specs.Numbers.{_⊕_, _<ᶠ_, f0}
-use Rattle.model.specs.Lists.{In, head, last, maybe}
+use Rattle.model.specs.Lists.{In, head, maybe}
 use Rattle.model.specs.Sheet.{Sheet, road-at}
 use Rattle.model.specs.Ends.{extension, lrp-prefers, End, at-end, at-start}
-use Rattle.model.proofs.Members.{in-getD}
+use Rattle.model.proofs.Members.{in-getD, last-part}
 use Rattle.bounds.proofs.EndBound.{in-reverse, in-place}
 use Rattle.search.specs.Answers.{Numbers}
 use Rattle.ends.specs.Post.{behind, Kept-as, Extended}
@@ -21,20 +21,6 @@ use Rattle.ends.specs.Whole.{Grows}
 use Rattle.ends.specs.declared.walks.Extension.{Extension}
 use Rattle.ends.specs.declared.walks.Extension.the-variants.{Kept, Dropped}
 use Rattle.ends.proofs.Turns.{whole}
-
-last-snoc : (xs : List ℕ) (x : ℕ) → last (xs ++ x ∷ []) ≡ some x
-unfolding last
-last-snoc [] x = refl
-last-snoc (y ∷ []) x = refl
-last-snoc (y ∷ z ∷ ys) x = last-snoc (z ∷ ys) x
-
-pub last-part : (p end : ℕ) (ids : List ℕ) → p < end → end ≤ length ids → last (drop p (take end ids)) ≡ some (getD ids (end - 1) 0)
-last-part p end ids h k =
-    let e : end ≡ suc (end - 1) = omega arith in
-    let t : take end ids ≡ take (end - 1) ids ++ getD ids (end - 1) 0 ∷ [] = ap (λ (n : ℕ). take n ids) e ∙ take-suc ids (end - 1) 0 (omega arith) in
-    let d : drop p (take end ids) ≡ drop p (take (end - 1) ids) ++ getD ids (end - 1) 0 ∷ [] =
-    ap (drop p) t ∙ drop-append-le p (take (end - 1) ids) (getD ids (end - 1) 0 ∷ []) (omega (arith, length-take-le (end - 1) ids (omega arith))) in
-    ap last d ∙ last-snoc (drop p (take (end - 1) ids)) (getD ids (end - 1) 0)
 
 pub head-is : (p : ℕ) (ids : List ℕ) → 0 < p → 0 < length ids → head (take p ids) ≡ some (getD ids 0 0)
 unfolding head

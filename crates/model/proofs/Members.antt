@@ -9,6 +9,7 @@ use native.Mathlib.Nat.{zero-lt-suc, not-suc-le-zero, le-of-suc-le-suc}
 use native.Mathlib.Omega.{arith}
 use lib.Dec.{T}
 use lib.ListN.{length, getD, set, take, drop, replicate, length-append, length-replicate}
+use lib.Seq.{take-suc, drop-append-le, length-take-le}
 use lib.Ieee.Fits.{and-l, and-r, and-i}
 use Rattle.model.specs.Lists.{In, cons-if, cons-some, keep, any, all, first, head, last, front, insert, sort, tab, pad, collect, fold}
 
@@ -285,3 +286,19 @@ module _ {A : Type 0} where
   pub length-pad : (n : ℕ) (d : A) (xs : List A) → length xs ≤ n → length (pad n d xs) ≡ n
   unfolding pad
   length-pad n d xs h = length-append xs (replicate (n - length xs) d) ∙ rw (length-replicate (n - length xs) d) (omega arith)
+
+-- ---- the last one of a part
+
+last-snoc : (xs : List ℕ) (x : ℕ) → last (xs ++ x ∷ []) ≡ some x
+unfolding last
+last-snoc [] x = refl
+last-snoc (y ∷ []) x = refl
+last-snoc (y ∷ z ∷ ys) x = last-snoc (z ∷ ys) x
+
+pub last-part : (p end : ℕ) (ids : List ℕ) → p < end → end ≤ length ids → last (drop p (take end ids)) ≡ some (getD ids (end - 1) 0)
+last-part p end ids h k =
+    let e : end ≡ suc (end - 1) = omega arith in
+    let t : take end ids ≡ take (end - 1) ids ++ getD ids (end - 1) 0 ∷ [] = ap (λ (n : ℕ). take n ids) e ∙ take-suc ids (end - 1) 0 (omega arith) in
+    let d : drop p (take end ids) ≡ drop p (take (end - 1) ids) ++ getD ids (end - 1) 0 ∷ [] =
+    ap (drop p) t ∙ drop-append-le p (take (end - 1) ids) (getD ids (end - 1) 0 ∷ []) (omega (arith, length-take-le (end - 1) ids (omega arith))) in
+    ap last d ∙ last-snoc (drop p (take (end - 1) ids)) (getD ids (end - 1) 0)

@@ -1,6 +1,9 @@
+use native.Mathlib.Omega.{arith}
+use mathlib.Core.Path.{sym}
+use Rattle.model.proofs.Members.{last-part}
 use borrow.Author.Needs.{needs}
 use Rattle.courses.specs.Left.{last-of}
-use Rattle.courses.proofs.Writing.{last-none, last-some}
+use Rattle.courses.proofs.Writing.{last-none}
 use Rattle.courses.proofs.path.last_written.Statement.{statement}
 use Rattle.courses.proofs.path.last_written.Tie as tie
 
@@ -19,7 +22,7 @@ shared-slice-read-k c = search needs
 
 returns-2 : tie.Need-returns-2
 unfolding last-of
-returns-2 c = last-some _ _ (c .before .if1 .left) (c .before .before .pre)
+returns-2 c = sym (last-part 0 _ _ (let z = c .before .if1 .left in omega arith) (c .before .before .pre))
 
 pub last-written-spec : {M : Type 1} → statement M
 last-written-spec = tie.close (tie.spec returns sub-at mul-k shared-slice-read-k returns-2)
