@@ -1,4 +1,4 @@
--- The candidates of a point of the parsed sheet, and those of them that a leg tries.
+-- The candidates of a point of the parsed sheet, those of them that a leg tries, and what it reads of them.
 use Prim.Native.Nat.{ℕ, _≤_, _<_, min}
 use mathlib.Core.Path.{_≡_}
 use mathlib.Core.Bool.{false}

@@ -1,4 +1,4 @@
-// The candidates of a point that a leg may try, by the lent ranks: each is made of its row when it is needed.
+// The candidates of a point that a leg may try, by the lent ranks: what it reads of each stands in its row and in the lent scores.
 use crate::rank;
 use model::Counts;
 use model::Road;

@@ -1,4 +1,4 @@
-// The rows of a point that pass, in the order of their candidates. Only ranks move; a candidate is made of its row where it is needed.
+// The rows of a point that pass, in the order of their candidates. Only ranks move; what a leg reads of a candidate is read from its row again.
 use crate::candidate;
 use crate::find;
 use model::Candidate;

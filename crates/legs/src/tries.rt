@@ -90,7 +90,7 @@ fn next_place(phase: Phase, t: usize, n: usize) -> usize
     }
 }
 
-// The pairs in the order of their sums, until one cannot win or the heap is used up. No candidate is made of a pair that cannot win.
+// The pairs in the order of their sums, until one cannot win or the heap is used up. Nothing but the scores is read of a pair that cannot win.
 pub fn try_pairs(
     s: &[u8],
     c: Counts,

@@ -47,7 +47,7 @@ fn take_close(b: Limits, best: Best, start: Terminal, end: Terminal) -> Best
     best
 }
 
-// The best so far after the pairs of start i: only an end on its road can change it, so candidates are made for such a pair alone.
+// The best so far after the pairs of start i: only an end on its road can change it, so terminals are read for such a pair alone.
 fn take_ends(
     s: &[u8],
     c: Counts,
