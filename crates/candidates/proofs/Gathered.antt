@@ -5,16 +5,19 @@ use mathlib.Core.Bool.{true, false}
 use mathlib.Core.Option.{Option, none, some}
 use mathlib.Core.List.{List, [], map}
 use native.Mathlib.Nat.{add-zero, zero-add, le-refl}
+use native.Mathlib.Numerals.{add-one}
 use native.Mathlib.Omega.{arith}
-use lib.ListN.{take, set}
+use lib.ListN.{length, take}
 use Rattle.model.specs.declared.Counts.{Counts}
 use Rattle.model.specs.declared.Settings.{Settings}
 use Rattle.model.specs.declared.Point.{Point}
+use Rattle.model.specs.declared.Row.{Row}
+use Rattle.model.specs.declared.Road.{Road}
 use Rattle.model.specs.declared.Candidate.{Candidate}
 use Rattle.model.specs.Lists.{In, insert, sort, fold, collect, cons-some, when, tab}
 use Rattle.model.specs.Layout.{points-bytes, rows-bytes}
 use Rattle.model.specs.Judge.{WellFormed, row-count, rows-before}
-use Rattle.model.specs.Sheet.{point-of, row-of, sheet-of}
+use Rattle.model.specs.Sheet.{point-of, row-of, road-at, sheet-of}
 use Rattle.model.specs.View.{spot-of}
 use Rattle.model.specs.Candidates.{candidate-of, passes, candidate, better, find-candidates}
 use Rattle.model.proofs.Members.{in-take, Every, every-none}
@@ -22,15 +25,16 @@ use Rattle.model.proofs.RowSums.{rows-within}
 use Rattle.sheet.proofs.Parts.{map-tab}
 use Rattle.sheet.proofs.Stops.{stop-point, stop-rows}
 use Rattle.bounds.proofs.Sources.{when-some}
-use Rattle.candidates.specs.Found.{no-stop, stop-at, candidates-at, OnSheet}
+use Rattle.candidates.specs.Found.{no-stop, stop-at, passing-at, candidates-at, OnSheet}
 use Rattle.candidates.proofs.Sorted.{Ordered, ordered-take, every-insert, insert-ordered}
+use Rattle.candidates.proofs.Insertion.{length-insert}
 use Rattle.candidates.proofs.Ranked.{ScoreAmount, better-orders}
 use Rattle.candidates.proofs.Weighed.{passing-score}
 use Rattle.candidates.proofs.SheetFacts.{weighed, measured, on-sheet}
 
 -- ---- one at a time
 
-abbrev placed : Option Candidate → List Candidate → List Candidate
+abbrev pub placed : Option Candidate → List Candidate → List Candidate
 placed none xs = xs
 placed (some x) xs = insert better x xs
 
@@ -38,6 +42,35 @@ placed (some x) xs = insert better x xs
 unfoldable pub sorted : (ℕ → Option Candidate) → ℕ → List Candidate
 sorted g zero = []
 sorted g (suc k) = placed (g k) (sorted g k)
+
+module _ (g : ℕ → Option Candidate) (k : ℕ) where
+  pub sorted-none : g k ≡ none → sorted g (k + 1) ≡ sorted g k
+  unfolding sorted
+  sorted-none e = rw (add-one k, sorted, e)
+
+  pub sorted-some : (x : Candidate) → g k ≡ some x → sorted g (k + 1) ≡ insert better x (sorted g k)
+  unfolding sorted
+  sorted-some x e = rw (add-one k, sorted, e)
+
+-- at most as many as numbers
+pub sorted-few : (g : ℕ → Option Candidate) (k : ℕ) → length (sorted g k) ≤ k
+unfolding sorted
+sorted-few g zero = omega arith
+sorted-few g (suc k) = go (sorted g k) (g k) (sorted-few g k)
+  where
+    go : (xs : List Candidate) (o : Option Candidate) → length xs ≤ k → length (placed o xs) ≤ suc k
+    go xs none h = omega arith
+    go xs (some x) h = omega (arith, length-insert better x xs)
+
+-- and none is lost on the way
+pub sorted-more : (g : ℕ → Option Candidate) (k m : ℕ) → length (sorted g k) ≤ length (sorted g (k + m))
+unfolding sorted
+sorted-more g k zero = omega (arith, ap (λ (j : ℕ). length (sorted g j)) (add-zero k))
+sorted-more g k (suc m) = let e : k + suc m ≡ suc (k + m) = omega arith in rw e (go (sorted g (k + m)) (g (k + m)) (sorted-more g k m))
+  where
+    go : {n : ℕ} (xs : List Candidate) (o : Option Candidate) → n ≤ length xs → n ≤ length (placed o xs)
+    go xs none h = h
+    go xs (some x) h = omega (arith, length-insert better x xs)
 
 one-more : (o : Option Candidate) (ys zs : List Candidate) → fold (λ us x. insert better x us) ys (cons-some o zs) ≡ fold (λ us x. insert better x us) (placed o ys) zs
 unfolding fold cons-some
@@ -67,15 +100,20 @@ unfoldable pub row-candidate : List ℕ → Counts → ℕ → ℕ → Option Ca
 row-candidate s c i k = candidate (sheet-of s c .settings) (point-of (points-bytes s c) i) (spot-of (sheet-of s c) (row-of (rows-bytes s c) (rows-before s i + k)))
 
 module _ (s : List ℕ) (c : Counts) (i : ℕ) (h : i < c .p) where
-  -- sorted and cut, they are the candidates of the point
-  pub cut-is : take (sheet-of s c .settings .«max_candidates») (sorted (row-candidate s c i) (row-count s i)) ≡ candidates-at (sheet-of s c) i
-  unfolding candidates-at find-candidates row-candidate
-  cut-is =
+  -- all of them, sorted, are those of the point that pass
+  pub sorted-all : sorted (row-candidate s c i) (row-count s i) ≡ passing-at (sheet-of s c) i
+  unfolding passing-at row-candidate
+  sorted-all =
       let t = sheet-of s c in
       let point = stop-point s c i h no-stop in
       let spots : map (spot-of t) (stop-at t i .rows) ≡ tab (row-count s i) (rows-before s i) (λ k. spot-of t (row-of (rows-bytes s c) k)) =
       ap (map (spot-of t)) (stop-rows s c i h no-stop) ∙ map-tab (spot-of t) (row-of (rows-bytes s c)) (row-count s i) (rows-before s i) in
-      sym (rw (point, spots) (ap (take (t .settings .«max_candidates»)) (sorted-is (candidate (t .settings) (point-of (points-bytes s c) i)) (λ k. spot-of t (row-of (rows-bytes s c) k)) (rows-before s i) (row-candidate s c i) (λ j. refl) (row-count s i))))
+      sym (rw (point, spots) (sorted-is (candidate (t .settings) (point-of (points-bytes s c) i)) (λ k. spot-of t (row-of (rows-bytes s c) k)) (rows-before s i) (row-candidate s c i) (λ j. refl) (row-count s i)))
+
+  -- cut, they are its candidates
+  pub cut-is : take (sheet-of s c .settings .«max_candidates») (sorted (row-candidate s c i) (row-count s i)) ≡ candidates-at (sheet-of s c) i
+  unfolding candidates-at find-candidates passing-at
+  cut-is = ap (take (sheet-of s c .settings .«max_candidates»)) sorted-all
 
   module _ (ok : WellFormed s c) where
     -- what a row gives
@@ -116,19 +154,19 @@ module _ (s : List ℕ) (c : Counts) (i : ℕ) (h : i < c .p) where
     candidates-ordered = subst (Ordered better) cut-is
         (ordered-take better (sheet-of s c .settings .«max_candidates») (sorted (row-candidate s c i) (row-count s i)) (sorted-facts (row-count s i) (le-refl (row-count s i)) .1))
 
--- ---- a turn of the loop over the rows
+-- ---- a turn of a loop over the rows
 
-module _ (s : List ℕ) (c : Counts) (i k : ℕ) (set : Settings) (p : Point) (first : ℕ) (x : Candidate)
+module _ (s : List ℕ) (c : Counts) (i k : ℕ) (set : Settings) (p : Point) (first : ℕ) (w : Row) (r : Road)
     (es : set ≡ sheet-of s c .settings) (ep : p ≡ point-of (points-bytes s c) i) (ef : first ≡ rows-before s i)
-    (ex : x ≡ candidate-of set p (spot-of (sheet-of s c) (row-of (rows-bytes s c) (first + k)))) where
-  same-row : candidate set p (spot-of (sheet-of s c) (row-of (rows-bytes s c) (first + k))) ≡ row-candidate s c i k
+    (ew : w ≡ row-of (rows-bytes s c) (first + k)) (er : r ≡ road-at (sheet-of s c) (w .road)) where
+  same-row : candidate set p (record { row = w; road = r }) ≡ row-candidate s c i k
   unfolding row-candidate
-  same-row = rw (es, ep, ef)
+  same-row = rw (er, ew, es, ep, ef)
 
-  pub row-kept : passes set x ≡ true → row-candidate s c i k ≡ some x
+  pub row-kept : passes set (candidate-of set p (record { row = w; road = r })) ≡ true → row-candidate s c i k ≡ some (candidate-of set p (record { row = w; road = r }))
   unfolding candidate when
-  row-kept e = sym same-row ∙ rw (sym ex, e)
+  row-kept e = sym same-row ∙ rw e
 
-  pub row-dropped : passes set x ≡ false → row-candidate s c i k ≡ none
+  pub row-dropped : passes set (candidate-of set p (record { row = w; road = r })) ≡ false → row-candidate s c i k ≡ none
   unfolding candidate when
-  row-dropped e = sym same-row ∙ rw (sym ex, e)
+  row-dropped e = sym same-row ∙ rw e

@@ -5,9 +5,10 @@ pub mod Ranked
 pub mod Degrees
 pub mod Weighed
 pub mod SheetFacts
+pub mod Insertion
 pub mod Gathered
-pub mod Putting
-pub mod RankLaws
-pub mod RanksKept
+pub mod Distances
+pub mod Best
 pub mod Rules
 pub mod Pointwise
+pub mod Held

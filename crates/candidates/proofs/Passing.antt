@@ -36,10 +36,6 @@ module _ (c : Settings) (x : Candidate) where
   unfolding passes
   drop-distance e f = rw (e, f)
 
-  pub drop-bearing : off-class c x ≡ false → lt (c .«search_radius_m») (x .distance) ≡ false → lt (c .«max_bearing_diff») (x .«bearing_diff») ≡ true → false ≡ passes c x
+  pub by-bearing : off-class c x ≡ false → lt (c .«search_radius_m») (x .distance) ≡ false → not (lt (c .«max_bearing_diff») (x .«bearing_diff»)) ≡ passes c x
   unfolding passes
-  drop-bearing e f g = rw (e, f, g)
-
-  pub kept : off-class c x ≡ false → lt (c .«search_radius_m») (x .distance) ≡ false → lt (c .«max_bearing_diff») (x .«bearing_diff») ≡ false → true ≡ passes c x
-  unfolding passes
-  kept e f g = rw (e, f, g)
+  by-bearing e f = rw (e, f)

@@ -8,6 +8,7 @@ use native.Mathlib.Nat.{add-zero, zero-lt-suc}
 use native.Mathlib.Numerals.{add-one}
 use native.Mathlib.Omega.{arith}
 use lib.ListN.{length, take, getD}
+use lib.Seq.{take-all, take-take}
 use lib.Ieee.{Float, lt, le}
 use Rattle.model.specs.declared.Counts.{Counts}
 use Rattle.model.specs.declared.Candidate.{Candidate}
@@ -19,12 +20,16 @@ use Rattle.model.specs.View.{View, view, place-of}
 use Rattle.model.specs.Search.{Searcher}
 use Rattle.model.specs.Candidates.{find-candidates, nearest, Closest, closest, closest-point}
 use Rattle.model.specs.Decode.{refused, Outcome, first-empty, require-close-candidate, decode-legs, decode-points}
-use Rattle.model.proofs.Members.{length-tab}
+use Rattle.model.proofs.Members.{length-tab, map-take}
 use Rattle.model.proofs.Parsed.{stop-is}
 use Rattle.sheet.proofs.Parts.{map-tab}
 use Rattle.candidates.specs.declared.closest.Points.{Points}
 use Rattle.candidates.specs.declared.closest.Points.the-variants.{Fine, NoCandidate}
-use Rattle.candidates.specs.Found.{no-stop, candidates-at, no-candidate}
+use Rattle.candidates.specs.declared.closest.Seen.{Seen}
+use Rattle.candidates.specs.declared.closest.Away.{Away}
+use Rattle.candidates.specs.declared.closest.Aways.{Aways}
+use Rattle.candidates.specs.Found.{no-stop, passing-at, candidates-at}
+use Rattle.candidates.specs.Near.{Alike, Looked, away, no-away, InOrder, least-of}
 use Rattle.candidates.specs.Points.{candidates-of, close-enough, judge-points, points-of, after-points}
 
 -- ---- the least distance of a point
@@ -37,62 +42,43 @@ fold-more f d e b [] (suc k) = sym (e b)
 fold-more f d e b (x ∷ xs) zero = refl
 fold-more f d e b (x ∷ xs) (suc k) = fold-more f d e (f b x) xs k
 
-no-nearer : (b : Float) → fmin b (no-candidate .distance) ≡ b
-unfolding fmin lt
-no-nearer b = refl
+module _ (xs : List Away) (k : ℕ) (least : Float) (e : least ≡ fold (λ d x. fmin d (x .distance)) infinity (take k xs)) where
+  one-more : fold (λ d x. fmin d (x .distance)) infinity (take (k + 1) xs) ≡ fmin least (getD xs k no-away .distance)
+  unfolding fmin lt
+  one-more = rw (add-one k, e) (fold-more (λ d x. fmin d (x .distance)) no-away (λ b. refl) infinity xs k)
 
-nearest-more : (xs : List Candidate) (k : ℕ) → nearest (take (k + 1) xs) ≡ fmin (nearest (take k xs)) (getD xs k no-candidate .distance)
-unfolding nearest
-nearest-more xs k = rw (add-one k) (fold-more (λ d x. fmin d (x .distance)) no-candidate no-nearer infinity xs k)
-
-module _ (xs : List Candidate) (k : ℕ) (least : Float) (e : least ≡ nearest (take k xs)) where
-  pub nearer : lt (getD xs k no-candidate .distance) least ≡ true → getD xs k no-candidate .distance ≡ nearest (take (k + 1) xs)
+  pub nearer : lt (getD xs k no-away .distance) least ≡ true → getD xs k no-away .distance ≡ fold (λ d x. fmin d (x .distance)) infinity (take (k + 1) xs)
   unfolding fmin
-  nearer t = sym (nearest-more xs k ∙ rw (sym e, t))
+  nearer t = sym (one-more ∙ rw t)
 
-  pub not-nearer : lt (getD xs k no-candidate .distance) least ≡ false → least ≡ nearest (take (k + 1) xs)
+  pub not-nearer : lt (getD xs k no-away .distance) least ≡ false → least ≡ fold (λ d x. fmin d (x .distance)) infinity (take (k + 1) xs)
   unfolding fmin
-  not-nearer t = sym (nearest-more xs k ∙ rw (sym e, t))
+  not-nearer t = sym (one-more ∙ rw t)
 
-pub nearest-none : infinity ≡ nearest []
-unfolding nearest fold
-nearest-none = refl
+fold-map : {A B C : Type 0} (f : A → B) (g : C → B → C) (b : C) (xs : List A) → fold g b (map f xs) ≡ fold (λ d x. g d (f x)) b xs
+unfolding fold
+fold-map f g b [] = refl
+fold-map f g b (x ∷ xs) = fold-map f g (g b (f x)) xs
+
+-- the candidates are the first of those that pass
+candidates-cut : (t : Sheet) (i : ℕ) → candidates-at t i ≡ take (t .settings .«max_candidates») (passing-at t i)
+unfolding candidates-at passing-at find-candidates
+candidates-cut t i = refl
+
+module _ (t : Sheet) (i : ℕ) (most : ℕ) (em : most ≡ t .settings .«max_candidates») where
+  pub all-kept : (x : Seen) → Looked t i x → x .passing ≤ most → Alike (x .least) (nearest (candidates-at t i))
+  all-kept x h le =
+      let is : candidates-at t i ≡ passing-at t i = candidates-cut t i ∙ take-all (t .settings .«max_candidates») (passing-at t i) (omega (arith, h .passing)) in
+      rw is (h .least)
+
+  pub best-kept : (xs : Aways) → InOrder t i xs → most ≤ xs .count → least-of xs most ≡ nearest (candidates-at t i)
+  unfolding least-of nearest
+  best-kept xs h le =
+      let front : take most (xs .items) ≡ map away (candidates-at t i) =
+      sym (take-take most (xs .count) (xs .items) le) ∙ ap (take most) (h .items) ∙ sym (map-take away most (passing-at t i)) ∙ ap (λ (n : ℕ). map away (take n (passing-at t i))) em ∙ ap (map away) (sym (candidates-cut t i)) in
+      ap (fold (λ d x. fmin d (x .distance)) infinity) front ∙ fold-map away (λ d x. fmin d (x .distance)) infinity (candidates-at t i)
 
 -- ---- the points
-
--- the best so far after point i, whose least distance is d
-unfoldable pub closer : ℕ → Closest → Float → Closest
-closer i best d = cond (lt d (best .distance)) (record { point = i; distance = d }) best
-
--- the verdict from point i on
-unfoldable pub onward : Float → ℕ → Closest → List (List Candidate) → Points
-onward most i best [] = cond (le (best .distance) most) Fine (NoCandidate (best .point))
-onward most i best ([] ∷ rest) = NoCandidate i
-onward most i best ((x ∷ xs) ∷ rest) = onward most (suc i) (closer i best (nearest (x ∷ xs))) rest
-
-abbrev pub none-yet : Closest
-none-yet = record { point = 0; distance = infinity }
-
-onward-is : (most : Float) (i : ℕ) (best : Closest) (cs : List (List Candidate))
-    → onward most i best cs ≡ maybe (first-empty i cs) (let b = closest i best (map nearest cs) in cond (le (b .distance) most) Fine (NoCandidate (b .point))) NoCandidate
-unfolding onward first-empty closest closer maybe
-onward-is most i best [] = refl
-onward-is most i best ([] ∷ rest) = refl
-onward-is most i best ((x ∷ xs) ∷ rest) = onward-is most (suc i) (closer i best (nearest (x ∷ xs))) rest ∙ rw (add-one i)
-
-pub judged-so : (most : Float) (cs : List (List Candidate)) → 0 < length cs → onward most 0 none-yet cs ≡ judge-points most cs
-unfolding judge-points close-enough closest-point
-judged-so most [] h = absurd (omega arith)
-judged-so most (xs ∷ rest) h = onward-is most 0 none-yet (xs ∷ rest)
-
--- a point that is named is not fine
-named : Points → Type 0
-named Fine = ⊥
-named (NoCandidate i) = Unit {0}
-
-pub not-fine : {A : Type 0} (i : ℕ) → NoCandidate i ≡ Fine → A
-unfolding named
-not-fine i e = absurd (subst named e tt)
 
 choice : (b : Bool) (i : ℕ) (o : Outcome) → cond b o (refused 9 i 0) ≡ after-points (cond b Fine (NoCandidate i)) o
 unfolding after-points
@@ -114,28 +100,7 @@ pub decode-sheet-after : (t : Sheet) (search : Searcher) → decode-points (view
 unfolding points-of view
 decode-sheet-after t search = decode-after (view t) search (candidates-of t)
 
--- ---- point by point
-
-module _ (most : Float) (f : ℕ → List Candidate) (n : ℕ) where
-  front-of : (i : ℕ) → i < n → tab (n - i) i f ≡ f i ∷ tab (n - (i + 1)) (i + 1) f
-  unfolding tab
-  front-of i h = let e : n - i ≡ suc (n - (i + 1)) = omega arith in rw e
-
-  pub point-empty : (i : ℕ) (best : Closest) → i < n → f i ≡ [] → NoCandidate i ≡ onward most i best (tab (n - i) i f)
-  unfolding onward
-  point-empty i best h e = sym (ap (onward most i best) (front-of i h) ∙ rw (e, onward))
-
-  some-point : (i : ℕ) (best : Closest) (ys : List Candidate) (rest : List (List Candidate)) → 0 < length ys → onward most i best (ys ∷ rest) ≡ onward most (i + 1) (closer i best (nearest ys)) rest
-  unfolding onward
-  some-point i best [] rest h = absurd (omega arith)
-  some-point i best (y ∷ ys) rest h = rw (add-one i)
-
-  pub point-passed : (i : ℕ) (best : Closest) → i < n → 0 < length (f i) → onward most (i + 1) (closer i best (nearest (f i))) (tab (n - (i + 1)) (i + 1) f) ≡ onward most i best (tab (n - i) i f)
-  point-passed i best h l = sym (ap (onward most i best) (front-of i h) ∙ some-point i best (f i) _ l)
-
-  pub all-passed : (i : ℕ) (best : Closest) → n ≤ i → onward most i best (tab (n - i) i f) ≡ cond (le (best .distance) most) Fine (NoCandidate (best .point))
-  unfolding onward tab
-  all-passed i best h = let e : n - i ≡ 0 = omega arith in rw e
+-- ---- the candidates of all points, by number
 
 tab-same : {A : Type 0} (f g : ℕ → A) (n b : ℕ) → ((k : ℕ) → k < n → f (b + k) ≡ g (b + k)) → tab n b f ≡ tab n b g
 unfolding tab
@@ -165,10 +130,3 @@ module _ (s : List ℕ) (c : Counts) where
   no-points e =
       let none : candidates-of (sheet-of s c) ≡ [] = candidates-are ∙ rw e in
       rw none
-
-  pub points-are : 0 < c .p → onward (sheet-of s c .settings .«max_candidate_distance_m») 0 none-yet (tab (c .p) 0 (candidates-at (sheet-of s c))) ≡ points-of (sheet-of s c)
-  unfolding points-of
-  points-are h =
-      let t = sheet-of s c in
-      let m = t .settings .«max_candidate_distance_m» in
-      judged-so m (tab (c .p) 0 (candidates-at t)) (omega (arith, length-tab (c .p) 0 (candidates-at t))) ∙ ap (judge-points m) (sym candidates-are)

@@ -42,6 +42,10 @@ module _ (s : List ℕ) (c : Counts) (ok : WellFormed s c) where
     fow-weight = setting-finite 6 (omega arith);
   }
 
+  pub most-finite : Finite (sheet-of s c .settings .«max_candidate_distance_m»)
+  unfolding sheet-of settings-of
+  most-finite = setting-finite 2 (omega arith)
+
   module _ (i : ℕ) (h : i < c .p) (k : ℕ) (g : k < c .m) where
     road-below : row-of (rows-bytes s c) k .road < c .e
     road-below = rw (row-road-is s c k g) (row-road-below s c (ok .sound) k g)

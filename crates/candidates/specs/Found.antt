@@ -1,19 +1,22 @@
--- The candidates of a point of the parsed sheet, those of them that a leg tries, and what it reads of them.
+-- The candidates of a point of the parsed sheet, those of them that a leg tries, and the code's records of them.
 use Prim.Native.Nat.{ℕ, _≤_, _<_, min}
 use mathlib.Core.Path.{_≡_}
 use mathlib.Core.Bool.{false}
-use mathlib.Core.List.{List, []}
-use lib.ListN.{length, getD}
-use lib.Ieee.{nan}
+use mathlib.Core.List.{List, [], map}
+use lib.ListN.{length, take, getD}
+use lib.Dec.{T}
+use lib.Ieee.{nan, le}
 use Rattle.model.specs.declared.Counts.{Counts}
+use Rattle.model.specs.declared.Road.{Road}
 use Rattle.model.specs.declared.Candidate.{Candidate}
 use Rattle.model.specs.Numbers.{f0}
-use Rattle.model.specs.Judge.{rows-before}
-use Rattle.model.specs.Sheet.{Stop, Sheet, road-at, sheet-of}
-use Rattle.model.specs.View.{place-of}
-use Rattle.model.specs.Candidates.{find-candidates}
-use Rattle.candidates.specs.declared.find.Shortlist.{Shortlist}
-use Rattle.candidates.specs.declared.find.Terminal.{Terminal}
+use Rattle.model.specs.Sheet.{Stop, Sheet, road-at}
+use Rattle.model.specs.Lists.{sort, collect}
+use Rattle.model.specs.View.{spot-of, place-of}
+use Rattle.model.specs.Candidates.{candidate, better, find-candidates}
+use Rattle.bounds.specs.Amounts.{Amount}
+use Rattle.candidates.specs.declared.candidate.Candidate as code
+use Rattle.candidates.specs.declared.find.Candidates.{Candidates}
 
 -- past the last point: a point without rows
 abbrev pub no-stop : Stop
@@ -21,6 +24,10 @@ no-stop = record { point = record { dnp = f0; bearing = 0; frc = 0; fow = 0; lim
 
 abbrev pub stop-at : Sheet → ℕ → Stop
 stop-at t i = getD (t .stops) i no-stop
+
+-- those that pass, in order
+unfoldable pub passing-at : Sheet → ℕ → List Candidate
+passing-at t i = sort better (collect (candidate (t .settings) (stop-at t i .point)) (map (spot-of t) (stop-at t i .rows)))
 
 unfoldable pub candidates-at : Sheet → ℕ → List Candidate
 candidates-at t i = find-candidates (t .settings) (place-of t (stop-at t i))
@@ -34,13 +41,14 @@ pub record OnSheet (t : Sheet) (c : Counts) (x : Candidate) : Type 0 where
   pub frc : x .road .frc ≤ 7
   pub fow : x .road .fow ≤ 7
 
--- what a leg reads of a candidate
-abbrev pub terminal-of : Candidate → Terminal
-terminal-of x = record { road = x .road; distance = x .distance; score = x .score; fraction = x .fraction }
+-- ---- the code's record: the road by its number alone
 
--- a candidate of which a leg reads x: its three differences, which made up its score, count no more
-abbrev pub candidate-as : Terminal → Candidate
-candidate-as x = record { road = x .road; distance = x .distance; «bearing_diff» = f0; «frc_diff» = 0; «fow_score» = f0; score = x .score; fraction = x .fraction }
+abbrev pub by-number : Candidate → code.Candidate
+by-number x = record { road = x .road .number; distance = x .distance; «bearing_diff» = x .«bearing_diff»; «frc_diff» = x .«frc_diff»; «fow_score» = x .«fow_score»; score = x .score; fraction = x .fraction }
+
+-- the candidate that it stands for, on the road r
+abbrev pub on : Road → code.Candidate → Candidate
+on r x = record { road = r; distance = x .distance; «bearing_diff» = x .«bearing_diff»; «frc_diff» = x .«frc_diff»; «fow_score» = x .«fow_score»; score = x .score; fraction = x .fraction }
 
 -- what stands in an array past its end
 abbrev pub no-candidate : Candidate
@@ -54,12 +62,40 @@ no-candidate = record {
   fraction = nan;
 }
 
--- how many of n candidates a leg tries
+abbrev pub no-item : code.Candidate
+no-item = by-number no-candidate
+
+-- ---- those that a leg tries
+
+-- how many of n
 abbrev pub tried : ℕ → ℕ
 tried n = min 10 n
 
--- x stands for the candidates of its point that a leg tries
-pub record Listed (s : List ℕ) (c : Counts) (x : Shortlist) : Type 0 where
-  pub below : x .number < c .p
-  pub first : x .first ≡ rows-before s (x .number)
-  pub count : x .count ≡ tried (length (candidates-at (sheet-of s c) (x .number)))
+abbrev pub tried-at : Sheet → ℕ → List Candidate
+tried-at t i = take 10 (candidates-at t i)
+
+-- ---- a list of them by value
+
+-- the candidate that x stands for
+abbrev pub at-road : Sheet → code.Candidate → Candidate
+at-road t x = on (road-at t (x .road)) x
+
+-- those that xs holds
+unfoldable pub held : Sheet → Candidates → List Candidate
+held t xs = map (at-road t) (take (xs .count) (xs .items))
+
+abbrev pub item-at : Candidates → ℕ → code.Candidate
+item-at xs k = getD (xs .items) k no-item
+
+-- at most ten, on roads of the sheet, with scores that are amounts and never fall
+pub record Ready (c : Counts) (xs : Candidates) : Type 0 where
+  pub few : xs .count ≤ 10
+  pub room : xs .count ≤ length (xs .items)
+  pub named : (k : ℕ) → k < xs .count → item-at xs k .road < c .e
+  pub amounts : (k : ℕ) → k < xs .count → Amount (item-at xs k .score)
+  pub rise : (j k : ℕ) → j < k → k < xs .count → T (le (item-at xs j .score) (item-at xs k .score))
+
+-- xs holds those of point i that a leg tries
+pub record Lists (t : Sheet) (c : Counts) (i : ℕ) (xs : Candidates) : Type 0 where
+  pub are : held t xs ≡ tried-at t i
+  pub ready : Ready c xs

@@ -1,6 +1,5 @@
-// What a measured row gives: a candidate, and whether it passes.
+// What a measured row gives: whether it passes, and its candidate.
 use crate::score;
-use model::Candidate;
 use model::Point;
 use model::Road;
 use model::Row;
@@ -10,11 +9,23 @@ use road_network::spatial;
 ghost use mathlib.Core.Path.{_≡_};
 ghost use Prim.Native.Nat.{_≤_};
 ghost use Rattle.model.specs.Candidates.{candidate-of, passes};
+ghost use Rattle.candidates.specs.Found.{by-number};
+
+// A road that a point may lie on, by its number.
+pub struct Candidate {
+    pub road: usize,
+    pub distance: f64,
+    pub bearing_diff: f64,
+    pub frc_diff: u8,
+    pub fow_score: f64,
+    pub score: f64,
+    pub fraction: f64,
+}
 
 // The candidate of a row w of the point p, on the road r that it names.
 pub fn candidate_of(c: Settings, p: Point, w: Row, r: Road) -> Candidate
     requires { ⌜ (p .frc ≤ 7) × (r .frc ≤ 7) ⌝ }
-    ensures { λ x. ⌜ x ≡ candidate-of c p (record { row = w; road = r }) ⌝ }
+    ensures { λ x. ⌜ x ≡ by-number (candidate-of c p (record { row = w; road = r })) ⌝ }
 {
     let bearing_diff = spatial::bearing_difference(p.bearing as f64, w.bearing);
     let frc_diff = road_class::class_difference(r.frc, p.frc);
@@ -22,7 +33,7 @@ pub fn candidate_of(c: Settings, p: Point, w: Row, r: Road) -> Candidate
     let score = score::compute_score(c, w.distance, bearing_diff, frc_diff, fow_score);
     let fraction = spatial::fraction(w.along, w.line);
     Candidate {
-        road: r,
+        road: r.number,
         distance: w.distance,
         bearing_diff,
         frc_diff,
@@ -32,19 +43,29 @@ pub fn candidate_of(c: Settings, p: Point, w: Row, r: Road) -> Candidate
     }
 }
 
-// Whether a candidate is kept: a class difference above the tolerance drops it unless it is a slip road; distance and bearing only above their maxima.
-pub fn passes(c: Settings, x: Candidate) -> bool
-    ensures { λ b. ⌜ b ≡ passes c x ⌝ }
+// Its score alone.
+pub fn score_of(c: Settings, p: Point, w: Row, r: Road) -> f64
+    requires { ⌜ (p .frc ≤ 7) × (r .frc ≤ 7) ⌝ }
+    ensures { λ v. ⌜ v ≡ candidate-of c p (record { row = w; road = r }) .score ⌝ }
 {
-    let r = x.road;
-    if x.frc_diff > c.frc_tolerance && r.fow != 6 {
+    let bearing_diff = spatial::bearing_difference(p.bearing as f64, w.bearing);
+    let frc_diff = road_class::class_difference(r.frc, p.frc);
+    let fow_score = road_class::substitution_score(p.fow, r.fow);
+    score::compute_score(c, w.distance, bearing_diff, frc_diff, fow_score)
+}
+
+// Whether it is kept: a class difference above the tolerance drops it unless it is a slip road; distance and bearing only above their maxima.
+pub fn passes(c: Settings, p: Point, w: Row, r: Road) -> bool
+    requires { ⌜ (p .frc ≤ 7) × (r .frc ≤ 7) ⌝ }
+    ensures { λ b. ⌜ b ≡ passes c (candidate-of c p (record { row = w; road = r })) ⌝ }
+{
+    let frc_diff = road_class::class_difference(r.frc, p.frc);
+    if frc_diff > c.frc_tolerance && r.fow != 6 {
         return false;
     }
-    if x.distance > c.search_radius_m {
+    if w.distance > c.search_radius_m {
         return false;
     }
-    if x.bearing_diff > c.max_bearing_diff {
-        return false;
-    }
-    true
+    let bearing_diff = spatial::bearing_difference(p.bearing as f64, w.bearing);
+    !(bearing_diff > c.max_bearing_diff)
 }

@@ -1,104 +1,84 @@
-// The candidates of a point that a leg may try, by the lent ranks: what it reads of each stands in its row and in the lent scores.
-use crate::rank;
+// The candidates of a point that a leg may try: the best ten of the rows that pass, in order.
+use crate::candidate;
+use crate::candidate::Candidate;
 use model::Counts;
-use model::Road;
-use road_network::spatial;
-use sheet::numbers;
+use model::Settings;
 use sheet::points;
 use sheet::roads;
-ghost use Prim.Native.Nat.{_+_, _≤_, _<_};
-ghost use lib.ListN.{length, getD};
 ghost use mathlib.Core.Path.{_≡_};
-ghost use Rattle.model.specs.Judge.{WellFormed, rows-before};
+ghost use Prim.Native.Nat.{_≤_, _<_};
+ghost use Rattle.model.specs.Judge.{WellFormed};
 ghost use Rattle.model.specs.Sheet.{sheet-of};
-ghost use Rattle.candidates.specs.Found.{tried, candidates-at, no-candidate, OnSheet, terminal-of, candidate-as, Listed};
-ghost use Rattle.candidates.specs.Ranking.{ranks-size, scores-size, RanksAt, ScoresAt};
+ghost use Rattle.candidates.specs.Found.{tried, Lists};
 
-// A point by its number, its first row, and how many of its candidates a leg tries.
-pub struct Shortlist {
-    pub number: usize,
-    pub first: usize,
+// How many candidates of a point a leg tries.
+pub const MOST_TRIED: usize = 10;
+
+// The first `count` places hold a point's candidates, best first.
+pub struct Candidates {
     pub count: usize,
+    pub items: [Candidate; 10],
 }
 
-// What a leg reads of a candidate.
-pub struct Terminal {
-    pub road: Road,
-    pub distance: f64,
-    pub score: f64,
-    pub fraction: f64,
-}
-
-// A rank or a count as an index.
-pub fn index(x: u8) -> usize
-    ensures { λ r. ⌜ (r ≡ x) × (r < 256) ⌝ }
-{
-    x as usize
-}
-
-// How many of n candidates a leg tries: at most ten.
-pub fn tried(n: usize) -> usize
+// How many of n candidates a leg tries.
+fn tried(n: usize) -> usize
     ensures { λ r. ⌜ r ≡ tried n ⌝ }
 {
-    if n < 10 { n } else { 10 }
+    if n < MOST_TRIED { n } else { MOST_TRIED }
 }
 
-// The candidates of point i that a leg tries.
-pub fn shortlist_of(s: &[u8], c: Counts, i: usize, ranks: &[u8]) -> Shortlist
-    requires { ⌜ WellFormed (now s) c × (i < c .p) × (ranks-size ≤ length (now ranks)) × RanksAt (now s) c i (now ranks) ⌝ }
-    ensures { λ x. ⌜ (x .number ≡ i) × Listed (now (s .entry)) c x ⌝ }
-{
-    let first = points::first_row(s, c, i);
-    let all = index(ranks[rank::COUNTS + i]);
-    let count = tried(all);
-    Shortlist {
-        number: i,
-        first,
-        count,
+// What stands in a place that is not used.
+fn no_item() -> Candidate {
+    Candidate {
+        road: 0,
+        distance: 0.0,
+        bearing_diff: 0.0,
+        frc_diff: 0,
+        fow_score: 0.0,
+        score: 0.0,
+        fraction: 0.0,
     }
 }
 
-// The row of the k-th candidate.
-fn row_at(s: &[u8], c: Counts, x: Shortlist, ranks: &[u8], k: usize) -> usize
-    requires { ⌜ WellFormed (now s) c × Listed (now s) c x × (k < x .count) × (ranks-size ≤ length (now ranks)) × RanksAt (now s) c (x .number) (now ranks) ⌝ }
-    ensures { λ r. ⌜ (r ≡ rows-before (now (s .entry)) (x .number) + getD (now (ranks .entry)) (rows-before (now (s .entry)) (x .number) + k) 0) × (r < c .m) ⌝ }
+// The candidates of point i that a leg tries, best first. Rows come in the order of their roads' numbers, so among equal scores the earlier stays in front.
+// A full list takes a candidate only before its last, which falls out.
+pub fn find_candidates(s: &[u8], c: Counts, set: Settings, i: usize) -> Candidates
+    requires { ⌜ WellFormed (now s) c × (i < c .p) × (set ≡ sheet-of (now s) c .settings) ⌝ }
+    ensures { λ xs. ⌜ Lists (sheet-of (now (s .entry)) c) c i xs ⌝ }
 {
-    let first = x.first;
-    let row = index(ranks[first + k]);
-    first + row
-}
-
-// What a leg reads of the k-th candidate: its score stands in the lent list, the rest of it in its row.
-pub fn terminal_at(
-    s: &[u8],
-    c: Counts,
-    x: Shortlist,
-    ranks: &[u8],
-    scores: &[f64],
-    k: usize,
-) -> Terminal
-    requires { ⌜ WellFormed (now s) c × Listed (now s) c x × (k < x .count) × (ranks-size ≤ length (now ranks)) × RanksAt (now s) c (x .number) (now ranks) × (scores-size ≤ length (now scores)) × ScoresAt (now s) c (x .number) (now scores) ⌝ }
-    ensures { λ y. ⌜ (y ≡ terminal-of (getD (candidates-at (sheet-of (now (s .entry)) c) (x .number)) k no-candidate)) × OnSheet (sheet-of (now (s .entry)) c) c (candidate-as y) ⌝ }
-{
-    let row = row_at(s, c, x, ranks, k);
-    let w = points::row(s, c, row);
-    let road = w.road;
-    let r = roads::road(s, c, road);
-    let fraction = spatial::fraction(w.along, w.line);
-    let place = 10 * x.number + k;
-    Terminal {
-        road: r,
-        distance: w.distance,
-        score: scores[place],
-        fraction,
+    let nothing = no_item();
+    let mut items = [nothing; 10];
+    let mut count = 0;
+    let most = tried(set.max_candidates as usize);
+    if 0 < most {
+        let p = points::point(s, c, i);
+        let first = points::first_row(s, c, i);
+        let all = points::row_count(s, c, i);
+        let mut k = 0;
+        while k < all {
+            let w = points::row(s, c, first + k);
+            let road = w.road;
+            let r = roads::road(s, c, road);
+            if candidate::passes(set, p, w, r) {
+                let x = candidate::candidate_of(set, p, w, r);
+                let stay = if count < most { count } else { most - 1 };
+                let last = items[stay];
+                if count < most || x.score < last.score {
+                    let mut j = stay;
+                    'shift: while 0 < j {
+                        let y = items[j - 1];
+                        if !(x.score < y.score) {
+                            break 'shift;
+                        }
+                        items[j] = y;
+                        j -= 1;
+                    }
+                    items[j] = x;
+                    count = stay + 1;
+                }
+            }
+            k += 1;
+        }
     }
-}
-
-// The number of its road, which stands in its row.
-pub fn road_at(s: &[u8], c: Counts, x: Shortlist, ranks: &[u8], k: usize) -> usize
-    requires { ⌜ WellFormed (now s) c × Listed (now s) c x × (k < x .count) × (ranks-size ≤ length (now ranks)) × RanksAt (now s) c (x .number) (now ranks) ⌝ }
-    ensures { λ r. ⌜ r ≡ getD (candidates-at (sheet-of (now (s .entry)) c) (x .number)) k no-candidate .road .number ⌝ }
-{
-    let row = row_at(s, c, x, ranks, k);
-    numbers::row_road(s, c, row)
+    Candidates { count, items }
 }

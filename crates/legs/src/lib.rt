@@ -1,9 +1,8 @@
 // One leg: the way between two candidates' roads, the pairs one after the other, and find_best_path.
 pub mod middle;
-pub mod order;
 pub mod tries;
 
-use candidates::find::Shortlist;
+use candidates::find::Candidates;
 use model::Counts;
 use model::Limits;
 use model::Settings;
@@ -21,8 +20,7 @@ ghost use Rattle.model.specs.declared.Road.{Road};
 ghost use Rattle.model.specs.Judge.{WellFormed};
 ghost use Rattle.model.specs.Sheet.{sheet-of, road-at};
 ghost use Rattle.model.specs.Legs.{sought, find-best-path};
-ghost use Rattle.candidates.specs.Found.{candidates-at, Listed};
-ghost use Rattle.candidates.specs.Ranking.{ranks-size, scores-size, RanksAt, ScoresAt};
+ghost use Rattle.candidates.specs.Found.{held, Ready};
 ghost use Rattle.rules.specs.Code.{best-of};
 ghost use Rattle.search.specs.Areas.{columns, Sized};
 ghost use Rattle.legs.specs.Found.{seek-at, end-of, sought-of, Fits, Holds};
@@ -66,10 +64,8 @@ pub fn find_best_path(
     c: Counts,
     set: Settings,
     b: Limits,
-    starts: Shortlist,
-    ends: Shortlist,
-    ranks: &[u8],
-    scores: &[f64],
+    starts: Candidates,
+    ends: Candidates,
     slots: usize,
     real: &mut [f64],
     penalised: &mut [f64],
@@ -81,13 +77,13 @@ pub fn find_best_path(
     node: &mut [usize],
     order: &mut [usize],
 ) -> Sought
-    requires { ⌜ WellFormed (now s) c × (set ≡ sheet-of (now s) c .settings) × (0 < c .n) × Listed (now s) c starts × Listed (now s) c ends × (ranks-size ≤ length (now ranks)) × RanksAt (now s) c (starts .number) (now ranks) × RanksAt (now s) c (ends .number) (now ranks) × (scores-size ≤ length (now scores)) × ScoresAt (now s) c (starts .number) (now scores) × ScoresAt (now s) c (ends .number) (now scores) ⌝ }
+    requires { ⌜ WellFormed (now s) c × (set ≡ sheet-of (now s) c .settings) × (0 < c .n) × Ready c starts × Ready c ends ⌝ }
     requires { ⌜ (0 < slots) × (c .n ≤ length (now route)) × (c .n ≤ length (now «best_route»)) × Sized (c .n) slots (columns (now real) (now penalised) (now «came_from») (now key) (now cost) (now node) (now order) 0 0) ⌝ }
     ensures means { λ r. ⌜ sought-of (road-at (sheet-of (now (s .entry)) c)) r (now («best_route» .exit))
-        ≡ find-best-path b (seek-at (sheet-of (now (s .entry)) c) slots b) (candidates-at (sheet-of (now (s .entry)) c) (starts .number)) (candidates-at (sheet-of (now (s .entry)) c) (ends .number)) ⌝ }
+        ≡ find-best-path b (seek-at (sheet-of (now (s .entry)) c) slots b) (held (sheet-of (now (s .entry)) c) starts) (held (sheet-of (now (s .entry)) c) ends) ⌝ }
     ensures holds { λ r. ⌜ Holds (c .n) (c .e) r (now («best_route» .exit)) ⌝ }
 {
-    let same = same_edge::try_same_edge_solution(s, c, b, starts, ends, ranks, scores);
+    let same = same_edge::try_same_edge_solution(s, c, b, starts, ends);
     if same.found {
         let alone = routes::without_middle(same);
         return best_or_none(alone);
@@ -99,8 +95,6 @@ pub fn find_best_path(
         b,
         starts,
         ends,
-        ranks,
-        scores,
         slots,
         real,
         penalised,

@@ -1,9 +1,7 @@
 // The pairs of a leg, one after the other.
 use crate::middle;
-use crate::order;
-use candidates::find;
-use candidates::find::Shortlist;
-use candidates::find::Terminal;
+use candidates::candidate::Candidate;
+use candidates::find::Candidates;
 use model::Counts;
 use model::Limits;
 use model::Settings;
@@ -12,6 +10,7 @@ use plans::State;
 use plans::turns;
 use rules::Best;
 use rules::routes;
+use sheet::roads;
 ghost use mathlib.Core.Path.{_≡_};
 ghost use mathlib.Core.Option.{none};
 ghost use Prim.Native.Nat.{_≤_, _<_};
@@ -19,10 +18,9 @@ ghost use lib.ListN.{length};
 ghost use Rattle.model.specs.Lists.{sort};
 ghost use Rattle.model.specs.Judge.{WellFormed};
 ghost use Rattle.model.specs.Sheet.{sheet-of, road-at};
-ghost use Rattle.model.specs.Legs.{leg-pairs, by-sum, try-pair, try-pairs};
-ghost use Rattle.candidates.specs.Found.{candidates-at, Listed};
-ghost use Rattle.candidates.specs.Ranking.{ranks-size, scores-size, RanksAt, ScoresAt};
-ghost use Rattle.rules.specs.Code.{pair-as, best-of};
+ghost use Rattle.model.specs.Legs.{pair, pairs, by-sum, try-pair, try-pairs};
+ghost use Rattle.candidates.specs.Found.{at-road, held, Ready};
+ghost use Rattle.rules.specs.Code.{best-of};
 ghost use Rattle.plans.specs.Turns.{turn-of};
 ghost use Rattle.search.specs.Areas.{columns, Sized};
 ghost use Rattle.legs.specs.Found.{seek-at, end-of, place-after, Fits};
@@ -33,8 +31,8 @@ pub fn try_pair(
     c: Counts,
     set: Settings,
     b: Limits,
-    start: Terminal,
-    end: Terminal,
+    start: Candidate,
+    end: Candidate,
     best: Best,
     slots: usize,
     real: &mut [f64],
@@ -47,13 +45,17 @@ pub fn try_pair(
     node: &mut [usize],
     order: &mut [usize],
 ) -> State
-    requires { ⌜ WellFormed (now s) c × (set ≡ sheet-of (now s) c .settings) × (start .road .target < c .n) × (end .road .source < c .n) × Fits (c .n) (c .e) best (now «best_route») ⌝ }
+    requires { ⌜ WellFormed (now s) c × (set ≡ sheet-of (now s) c .settings) × (start .road < c .e) × (end .road < c .e) × Fits (c .n) (c .e) best (now «best_route») ⌝ }
     requires { ⌜ (0 < slots) × (c .n ≤ length (now route)) × (c .n ≤ length (now «best_route»)) × Sized (c .n) slots (columns (now real) (now penalised) (now «came_from») (now key) (now cost) (now node) (now order) 0 0) ⌝ }
     ensures means { λ t. ⌜ turn-of (t .phase) (best-of (road-at (sheet-of (now (s .entry)) c)) (t .best) (now («best_route» .exit)))
-        ≡ try-pair b (seek-at (sheet-of (now (s .entry)) c) slots b) (best-of (road-at (sheet-of (now (s .entry)) c)) best (now («best_route» .entry))) (pair-as start end) ⌝ }
+        ≡ try-pair b (seek-at (sheet-of (now (s .entry)) c) slots b) (best-of (road-at (sheet-of (now (s .entry)) c)) best (now («best_route» .entry))) (pair (at-road (sheet-of (now (s .entry)) c) start) (at-road (sheet-of (now (s .entry)) c) end)) ⌝ }
     ensures fits { λ t. ⌜ Fits (c .n) (c .e) (t .best) (now («best_route» .exit)) ⌝ }
 {
-    let p = turns::plan(b, best, start, end);
+    let from = start.road;
+    let to = end.road;
+    let first = roads::road(s, c, from);
+    let last = roads::road(s, c, to);
+    let p = turns::plan(b, best, start, first, end, last);
     let a = turns::ask(p);
     let m = middle::middle(
         s,
@@ -61,8 +63,8 @@ pub fn try_pair(
         set,
         b,
         a,
-        start.road.target,
-        end.road.source,
+        first.target,
+        last.source,
         slots,
         real,
         penalised,
@@ -73,7 +75,7 @@ pub fn try_pair(
         node,
         order,
     );
-    let t = turns::settle(b, start, end, best, p, m);
+    let t = turns::settle(b, start, first, end, last, best, p, m);
     middle::keep_roads(best_route, route, t.taken);
     t
 }
@@ -90,16 +92,14 @@ fn next_place(phase: Phase, t: usize, n: usize) -> usize
     }
 }
 
-// The pairs in the order of their sums, until one cannot win or the heap is used up. Nothing but the scores is read of a pair that cannot win.
+// The pairs in the order of their sums, until one cannot win or the heap is used up.
 pub fn try_pairs(
     s: &[u8],
     c: Counts,
     set: Settings,
     b: Limits,
-    starts: Shortlist,
-    ends: Shortlist,
-    ranks: &[u8],
-    scores: &[f64],
+    starts: Candidates,
+    ends: Candidates,
     slots: usize,
     real: &mut [f64],
     penalised: &mut [f64],
@@ -111,13 +111,23 @@ pub fn try_pairs(
     node: &mut [usize],
     order: &mut [usize],
 ) -> State
-    requires { ⌜ WellFormed (now s) c × (set ≡ sheet-of (now s) c .settings) × Listed (now s) c starts × Listed (now s) c ends × (ranks-size ≤ length (now ranks)) × RanksAt (now s) c (starts .number) (now ranks) × RanksAt (now s) c (ends .number) (now ranks) × (scores-size ≤ length (now scores)) × ScoresAt (now s) c (starts .number) (now scores) × ScoresAt (now s) c (ends .number) (now scores) ⌝ }
+    requires { ⌜ WellFormed (now s) c × (set ≡ sheet-of (now s) c .settings) × Ready c starts × Ready c ends ⌝ }
     requires { ⌜ (0 < slots) × (c .n ≤ length (now route)) × (c .n ≤ length (now «best_route»)) × Sized (c .n) slots (columns (now real) (now penalised) (now «came_from») (now key) (now cost) (now node) (now order) 0 0) ⌝ }
     ensures means { λ t. ⌜ end-of (road-at (sheet-of (now (s .entry)) c)) t (now («best_route» .exit))
-        ≡ try-pairs b (seek-at (sheet-of (now (s .entry)) c) slots b) (sort by-sum (leg-pairs (candidates-at (sheet-of (now (s .entry)) c) (starts .number)) (candidates-at (sheet-of (now (s .entry)) c) (ends .number)))) none ⌝ }
+        ≡ try-pairs b (seek-at (sheet-of (now (s .entry)) c) slots b) (sort by-sum (pairs (held (sheet-of (now (s .entry)) c) starts) (held (sheet-of (now (s .entry)) c) ends))) none ⌝ }
     ensures fits { λ t. ⌜ Fits (c .n) (c .e) (t .best) (now («best_route» .exit)) ⌝ }
 {
     let count = starts.count * ends.count;
+    let mut by_start = [0.0; 10];
+    let mut by_end = [0.0; 10];
+    let mut k = 0;
+    'fill: while k < 10 {
+        let x = starts.items[k];
+        let y = ends.items[k];
+        by_start[k] = x.score;
+        by_end[k] = y.score;
+        k += 1;
+    }
     let mut heads = [0usize; 10];
     let unset = routes::no_best();
     let mut st = State {
@@ -127,13 +137,15 @@ pub fn try_pairs(
     };
     let mut t = 0;
     while t < count {
-        let next = order::next_pair(scores, starts, ends, &mut heads);
+        let next = pairs::next_pair(&by_start, starts.count, &by_end, ends.count, &mut heads);
         let best = st.best;
-        if routes::best_score(best) <= order::sum_of(scores, starts, ends, next) {
+        let i = next.start;
+        let j = next.end;
+        let first = starts.items[i];
+        let last = ends.items[j];
+        if routes::best_score(best) <= first.score + last.score {
             return st;
         }
-        let first = find::terminal_at(s, c, starts, ranks, scores, next.start);
-        let last = find::terminal_at(s, c, ends, ranks, scores, next.end);
         st = try_pair(
             s,
             c,

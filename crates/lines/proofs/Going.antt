@@ -105,6 +105,13 @@ module _ (s : List ℕ) (c : Counts) (slots : ℕ) where
         let all = rows-fit (x .next + 1) (c .p + 4) row (omega arith) in
         omega arith
 
+    -- where another leg comes, it is the next one
+    pub next-one : (e : LegEnd) → advanced x (c .p) e .next + 1 < c .p → advanced x (c .p) e .next ≡ x .next + 1
+    unfolding advanced
+    next-one (E.Walked w) h = refl
+    next-one E.NoPath h = absurd (omega arith)
+    next-one E.HeapFull h = absurd (omega arith)
+
     pub nearer : (e : LegEnd) → c .p - advanced x (c .p) e .next < c .p - x .next
     unfolding advanced
     nearer (E.Walked w) = omega arith

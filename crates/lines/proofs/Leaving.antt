@@ -4,19 +4,22 @@ use mathlib.Core.Path.{_≡_, refl, sym, ap, _∙_, subst}
 use mathlib.Core.Bool.{Bool}
 use mathlib.Core.Option.{Option}
 use mathlib.Core.List.{List}
+use native.Mathlib.Nat.{le-refl}
 use native.Mathlib.Omega.{arith}
 use lib.ListN.{take}
+use lib.Seq.{take-take}
 use lib.Ieee.{Float}
 use Rattle.model.specs.declared.Counts.{Counts}
 use Rattle.model.specs.declared.Point.{Point}
+use Rattle.model.specs.declared.Candidate.{Candidate}
 use Rattle.model.specs.declared.Limits.{Limits}
 use Rattle.model.specs.Layout.{points-bytes}
 use Rattle.model.specs.Sheet.{Stop, Sheet, sheet-of, road-at, point-of, stop-of}
 use Rattle.model.specs.View.{limits-of}
-use Rattle.model.specs.Legs.{Coverage, find-best-path}
+use Rattle.model.specs.Legs.{Coverage, Pair, pairs, leg-pairs, try-same-edge-solution, else-pairs, find-best-path}
 use Rattle.model.specs.Legs as model
 use Rattle.model.proofs.Parsed.{stop-is}
-use Rattle.candidates.specs.Found.{no-stop, candidates-at}
+use Rattle.candidates.specs.Found.{no-stop, candidates-at, tried-at}
 use Rattle.rules.specs.declared.Route.{Route}
 use Rattle.rules.specs.Code.{path-of}
 use Rattle.legs.specs.declared.Sought as legs
@@ -34,11 +37,19 @@ pub limits-are : (s : List ℕ) (c : Counts) (i : ℕ) → i < c .p → (p : Poi
 unfolding stop-of
 limits-are s c i h p is = ap (limits-of (sheet-of s c .settings)) (is ∙ ap (λ (x : Stop). x .point) (sym (stop-is s c i h no-stop)))
 
--- what a leg finds, with its limits and the numbers of its points at hand
-pub sought-is : (t : Sheet) (slots i : ℕ) {b : Limits} {j k : ℕ} → b ≡ leg-limits t i → j ≡ i → k ≡ i + 1
-    → find-best-path b (seek-at t slots b) (candidates-at t j) (candidates-at t k) ≡ leg-sought t slots i
-unfolding leg-sought
-sought-is t slots i limits start end = rw (limits, start, end)
+-- of the first ten of two lists a leg tries the same pairs
+same-pairs : (xs ys : List Candidate) → leg-pairs (take 10 xs) (take 10 ys) ≡ leg-pairs xs ys
+same-pairs xs ys = ap (λ (l : List Candidate). pairs l (take 10 (take 10 ys))) (take-take 10 10 xs (le-refl 10)) ∙ ap (pairs (take 10 xs)) (take-take 10 10 ys (le-refl 10))
+
+-- what a leg finds, with its limits and its candidates at hand
+pub sought-is : (t : Sheet) (slots i : ℕ) {b : Limits} {xs ys : List Candidate} → b ≡ leg-limits t i → xs ≡ tried-at t i → ys ≡ tried-at t (i + 1)
+    → find-best-path b (seek-at t slots b) xs ys ≡ leg-sought t slots i
+unfolding leg-sought find-best-path
+sought-is t slots i {b} {xs} {ys} limits start end =
+    let seek = seek-at t slots b in
+    ap (λ (l : List Candidate). find-best-path b seek l ys) start ∙ ap (find-best-path b seek (tried-at t i)) end
+    ∙ ap (λ (ps : List Pair). else-pairs b seek ps (try-same-edge-solution b ps)) (same-pairs (candidates-at t i) (candidates-at t (i + 1)))
+    ∙ rw limits
 
 pub known-route : {t : Sheet} {c : Counts} {x : legs.Sought} {area : List ℕ} {r : Route} → x ≡ S.Best r → KnownAs t c x area → Known t c r area
 unfolding KnownAs

@@ -2,7 +2,7 @@
 use crate::LegEnd;
 use crate::Segment;
 use crate::Walked;
-use candidates::find;
+use candidates::find::Candidates;
 use courses::Last;
 use courses::coverage;
 use courses::path;
@@ -20,7 +20,7 @@ ghost use Rattle.model.specs.Sheet.{sheet-of, road-at};
 ghost use Rattle.search.specs.Areas.{columns, Sized};
 ghost use Rattle.legs.specs.Found.{sought-of};
 ghost use Rattle.search.specs.Answers.{Numbers};
-ghost use Rattle.candidates.specs.Ranking.{ranks-size, scores-size, RanksTo, ScoresTo};
+ghost use Rattle.candidates.specs.Found.{Lists};
 ghost use Rattle.courses.specs.Left.{last-of, coverages-at};
 ghost use Rattle.lines.specs.Legs.{leg-limits, leg-sought, KnownAs, Leaves};
 
@@ -72,13 +72,13 @@ fn leave(
     }
 }
 
-// The leg from point i to the next, behind the road `last` and n0 coverages. The ranks of all points are lent.
+// The leg from point i to the next, behind the road `last` and n0 coverages. Both points' candidates come by value.
 pub fn walk_leg(
     s: &[u8],
     c: Counts,
     set: Settings,
-    ranks: &[u8],
-    scores: &[f64],
+    starts: Candidates,
+    ends: Candidates,
     i: usize,
     summed: bool,
     last: Last,
@@ -97,16 +97,13 @@ pub fn walk_leg(
     coverage: &mut [f64],
     out: &mut [u64],
 ) -> LegEnd
-    requires { ⌜ WellFormed (now s) c × (set ≡ sheet-of (now s) c .settings) × (0 < c .n) × (i + 1 < c .p) × Numbers (c .e) n0 (now covered) × (ranks-size ≤ length (now ranks)) × RanksTo (now s) c (c .p) (now ranks) × (scores-size ≤ length (now scores)) × ScoresTo (now s) c (c .p) (now scores) ⌝ }
+    requires { ⌜ WellFormed (now s) c × (set ≡ sheet-of (now s) c .settings) × (0 < c .n) × (i + 1 < c .p) × Numbers (c .e) n0 (now covered) × Lists (sheet-of (now s) c) c i starts × Lists (sheet-of (now s) c) c (i + 1) ends ⌝ }
     requires { ⌜ (n0 + c .n + 1 ≤ length (now covered)) × (n0 + c .n + 1 ≤ length (now coverage)) × (c .n + 1 ≤ length (now out)) ⌝ }
     requires { ⌜ (0 < slots) × (c .n ≤ length (now route)) × (c .n ≤ length (now «best_route»)) × Sized (c .n) slots (columns (now real) (now penalised) (now «came_from») (now key) (now cost) (now node) (now order) 0 0) ⌝ }
     ensures { λ r. ⌜ Leaves (sheet-of (now (s .entry)) c) c summed (leg-limits (sheet-of (now (s .entry)) c) i .dnp) (last-of last) (coverages-at (sheet-of (now (s .entry)) c) n0 (now (covered .entry)) (now (coverage .entry))) n0
         (leg-sought (sheet-of (now (s .entry)) c) slots i) (now (out .exit)) (now (covered .exit)) (now (coverage .exit)) r ⌝ }
 {
     let b = leg_limits(s, c, set, i);
-    let starts = find::shortlist_of(s, c, i, ranks);
-    let next = i + 1;
-    let ends = find::shortlist_of(s, c, next, ranks);
     let found = legs::find_best_path(
         s,
         c,
@@ -114,8 +111,6 @@ pub fn walk_leg(
         b,
         starts,
         ends,
-        ranks,
-        scores,
         slots,
         real,
         penalised,

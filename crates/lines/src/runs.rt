@@ -2,6 +2,7 @@
 use crate::Legs;
 use crate::leg;
 use crate::steps;
+use candidates::find;
 use courses::Last;
 use courses::path;
 use model::Counts;
@@ -12,17 +13,14 @@ ghost use lib.ListN.{length};
 ghost use Rattle.model.specs.Judge.{WellFormed};
 ghost use Rattle.model.specs.Sheet.{sheet-of};
 ghost use Rattle.model.specs.Call.{most-entries};
-ghost use Rattle.candidates.specs.Ranking.{ranks-size, scores-size, RanksTo, ScoresTo};
 ghost use Rattle.search.specs.Areas.{columns, Sized};
 ghost use Rattle.lines.specs.Legs.{line, point-along-line, Ends};
 
-// decode_line: each leg behind the roads already written.
+// decode_line: each leg behind the roads already written. The candidates of its end are those of the next leg's start.
 pub fn decode_line(
     s: &[u8],
     c: Counts,
     set: Settings,
-    ranks: &[u8],
-    scores: &[f64],
     slots: usize,
     real: &mut [f64],
     penalised: &mut [f64],
@@ -37,23 +35,26 @@ pub fn decode_line(
     coverage: &mut [f64],
     ids: &mut [u64],
 ) -> Legs
-    requires { ⌜ WellFormed (now s) c × (set ≡ sheet-of (now s) c .settings) × (0 < c .n) × (ranks-size ≤ length (now ranks)) × RanksTo (now s) c (c .p) (now ranks) × (scores-size ≤ length (now scores)) × ScoresTo (now s) c (c .p) (now scores) ⌝ }
+    requires { ⌜ WellFormed (now s) c × (set ≡ sheet-of (now s) c .settings) × (0 < c .n) × (0 < c .p) ⌝ }
     requires { ⌜ (most-entries (c .p) (c .n) ≤ length (now covered)) × (most-entries (c .p) (c .n) ≤ length (now coverage)) × (most-entries (c .p) (c .n) ≤ length (now ids)) ⌝ }
     requires { ⌜ (0 < slots) × (c .n ≤ length (now route)) × (c .n ≤ length (now «best_route»)) × Sized (c .n) slots (columns (now real) (now penalised) (now «came_from») (now key) (now cost) (now node) (now order) 0 0) ⌝ }
     ensures { λ r. ⌜ Ends (sheet-of (now (s .entry)) c) c (line (sheet-of (now (s .entry)) c) slots) (now (ids .exit)) (now (covered .exit)) (now (coverage .exit)) (r .end) (r .course) ⌝ }
 {
     let points = c.p;
     let mut run = steps::begin();
+    let mut starts = find::find_candidates(s, c, set, 0);
     while run.next + 1 < points {
         let at = run.course.written;
         let n0 = run.course.covered;
         let last = path::last_written(ids, at);
+        let to = run.next + 1;
+        let ends = find::find_candidates(s, c, set, to);
         let end = leg::walk_leg(
             s,
             c,
             set,
-            ranks,
-            scores,
+            starts,
+            ends,
             run.next,
             true,
             last,
@@ -72,6 +73,7 @@ pub fn decode_line(
             coverage,
             &mut ids[at..],
         );
+        starts = ends;
         run = steps::advance(run, points, end);
     }
     run
@@ -82,8 +84,6 @@ pub fn decode_point_along_line(
     s: &[u8],
     c: Counts,
     set: Settings,
-    ranks: &[u8],
-    scores: &[f64],
     slots: usize,
     real: &mut [f64],
     penalised: &mut [f64],
@@ -98,18 +98,20 @@ pub fn decode_point_along_line(
     coverage: &mut [f64],
     ids: &mut [u64],
 ) -> Legs
-    requires { ⌜ WellFormed (now s) c × (set ≡ sheet-of (now s) c .settings) × (0 < c .n) × (c .p ≡ 2) × (ranks-size ≤ length (now ranks)) × RanksTo (now s) c (c .p) (now ranks) × (scores-size ≤ length (now scores)) × ScoresTo (now s) c (c .p) (now scores) ⌝ }
+    requires { ⌜ WellFormed (now s) c × (set ≡ sheet-of (now s) c .settings) × (0 < c .n) × (c .p ≡ 2) ⌝ }
     requires { ⌜ (most-entries (c .p) (c .n) ≤ length (now covered)) × (most-entries (c .p) (c .n) ≤ length (now coverage)) × (most-entries (c .p) (c .n) ≤ length (now ids)) ⌝ }
     requires { ⌜ (0 < slots) × (c .n ≤ length (now route)) × (c .n ≤ length (now «best_route»)) × Sized (c .n) slots (columns (now real) (now penalised) (now «came_from») (now key) (now cost) (now node) (now order) 0 0) ⌝ }
     ensures { λ r. ⌜ Ends (sheet-of (now (s .entry)) c) c (point-along-line (sheet-of (now (s .entry)) c) slots) (now (ids .exit)) (now (covered .exit)) (now (coverage .exit)) (r .end) (r .course) ⌝ }
 {
     let run = steps::begin();
+    let starts = find::find_candidates(s, c, set, 0);
+    let ends = find::find_candidates(s, c, set, 1);
     let end = leg::walk_leg(
         s,
         c,
         set,
-        ranks,
-        scores,
+        starts,
+        ends,
         0,
         false,
         Last::Nothing,

@@ -2,6 +2,5 @@ pub mod PairLaws
 pub mod Fronts
 pub mod AddOrder
 pub mod Heads
-pub mod Rises
 pub mod LeftLaws
 pub mod NextLaws

@@ -14,8 +14,9 @@ use crate::Middle;
 use crate::Phase;
 use crate::Plan;
 use crate::State;
-use candidates::find::Terminal;
+use candidates::candidate::Candidate;
 use model::Limits;
+use model::Road;
 use road_network::road_class;
 use rules::Best;
 use rules::Part;
@@ -24,23 +25,30 @@ use rules::lengths;
 use rules::routes;
 
 // What a pair asks for, with the best so far.
-pub fn plan(b: Limits, best: Best, start: Terminal, end: Terminal) -> Plan
-    ensures { λ r. ⌜ ((roads : ℕ → Road) (old : List ℕ) → asked-of roads r ≡ asked b (best-score (best-of roads best old)) (pair-as start end)) ⌝ }
+pub fn plan(
+    b: Limits,
+    best: Best,
+    start: Candidate,
+    first: Road,
+    end: Candidate,
+    last: Road,
+) -> Plan
+    ensures { λ r. ⌜ ((roads : ℕ → Road) (old : List ℕ) → asked-of roads r ≡ asked b (best-score (best-of roads best old)) (pair-as start first end last)) ⌝ }
 {
     if routes::best_score(best) <= start.score + end.score {
         return Plan::Enough;
     }
-    if !road_class::allows(b.class, start.road) {
+    if !road_class::allows(b.class, first) {
         return Plan::Nothing;
     }
-    if !road_class::allows(b.class, end.road) {
+    if !road_class::allows(b.class, last) {
         return Plan::Nothing;
     }
-    if start.road.number == end.road.number {
-        let way = routes::on_one_road(b, start, end);
+    if first.number == last.number {
+        let way = routes::on_one_road(b, start, first, end, last);
         return Plan::Alone(way);
     }
-    let bound = lengths::middle_max(b, start, end);
+    let bound = lengths::middle_max(b, start, first, end, last);
     if bound <= 0.0 {
         return Plan::Nothing;
     }
@@ -67,20 +75,26 @@ fn if_kept(kept: bool, offset: f64) -> f64
 }
 
 // The route over a way of n roads with this cost, if its length fits.
-fn route_over(b: Limits, start: Terminal, end: Terminal, cost: f64, n: usize) -> Best
-    ensures { λ r. ⌜ (r .route .count ≡ n) × ((roads : ℕ → Road) (area : List ℕ) → best-of roads r area ≡ over b (pair-as start end) cost (map roads (take n area))) ⌝ }
+fn route_over(
+    b: Limits,
+    start: Candidate,
+    first: Road,
+    end: Candidate,
+    last: Road,
+    cost: f64,
+    n: usize,
+) -> Best
+    ensures { λ r. ⌜ (r .route .count ≡ n) × ((roads : ℕ → Road) (area : List ℕ) → best-of roads r area ≡ over b (pair-as start first end last) cost (map roads (take n area))) ⌝ }
 {
-    let first = start.road;
-    let last = end.road;
-    let start_part = lengths::end_offset(start);
-    let end_part = lengths::start_offset(end);
-    let total = lengths::length_over(start, end, cost);
+    let start_part = lengths::end_offset(start, first);
+    let end_part = lengths::start_offset(end, last);
+    let total = lengths::length_over(start, first, end, last, cost);
     let found = lengths::fits_over(b, total);
-    let score = lengths::score_of(b, start, end, total);
+    let score = lengths::score_of(b, start, first, end, last, total);
     let first_stays = lengths::stays(start_part, total);
     let last_stays = lengths::stays(end_part, total);
-    let start_offset = if_kept(first_stays, lengths::start_offset(start));
-    let end_offset = if_kept(last_stays, lengths::end_offset(end));
+    let start_offset = if_kept(first_stays, lengths::start_offset(start, first));
+    let end_offset = if_kept(last_stays, lengths::end_offset(end, last));
     Best {
         found,
         score,
@@ -122,12 +136,20 @@ fn take_better(best: Best, next: Best) -> State
 }
 
 // What a search leaves of the best so far, by what it found between the two roads.
-fn reach(b: Limits, start: Terminal, end: Terminal, best: Best, m: Middle) -> State
-    ensures { λ r. ⌜ Comes best r (count-of m) (λ roads old new. reached b (pair-as start end) (best-of roads best old) (found-of roads m new)) ⌝ }
+fn reach(
+    b: Limits,
+    start: Candidate,
+    first: Road,
+    end: Candidate,
+    last: Road,
+    best: Best,
+    m: Middle,
+) -> State
+    ensures { λ r. ⌜ Comes best r (count-of m) (λ roads old new. reached b (pair-as start first end last) (best-of roads best old) (found-of roads m new)) ⌝ }
 {
     match m {
         Middle::Found(cost, n) => {
-            let next = route_over(b, start, end, cost, n);
+            let next = route_over(b, start, first, end, last, cost, n);
             take_better(best, next)
         }
         Middle::Nothing => State {
@@ -144,8 +166,17 @@ fn reach(b: Limits, start: Terminal, end: Terminal, best: Best, m: Middle) -> St
 }
 
 // What a pair leaves of the best so far, by its plan and by what lies between its roads.
-pub fn settle(b: Limits, start: Terminal, end: Terminal, best: Best, p: Plan, m: Middle) -> State
-    ensures { λ r. ⌜ Comes best r (count-of m) (λ roads old new. settled b (pair-as start end) (best-of roads best old) (asked-of roads p) (found-of roads m new)) ⌝ }
+pub fn settle(
+    b: Limits,
+    start: Candidate,
+    first: Road,
+    end: Candidate,
+    last: Road,
+    best: Best,
+    p: Plan,
+    m: Middle,
+) -> State
+    ensures { λ r. ⌜ Comes best r (count-of m) (λ roads old new. settled b (pair-as start first end last) (best-of roads best old) (asked-of roads p) (found-of roads m new)) ⌝ }
 {
     match p {
         Plan::Enough => State {
@@ -162,6 +193,6 @@ pub fn settle(b: Limits, start: Terminal, end: Terminal, best: Best, p: Plan, m:
             let next = routes::without_middle(way);
             take_better(best, next)
         }
-        Plan::Across(_) => reach(b, start, end, best, m),
+        Plan::Across(_) => reach(b, start, first, end, last, best, m),
     }
 }

@@ -8,7 +8,6 @@ use Rattle.model.specs.declared.Counts.{Counts}
 use Rattle.model.specs.Layout.{most-points}
 use Rattle.model.specs.Sheet.{Sheet}
 use Rattle.model.specs.Decode as decode
-use Rattle.candidates.specs.Ranking.{RanksTo, ScoresTo}
 use Rattle.lines.specs.declared.Course.{Course}
 use Rattle.lines.specs.declared.End.{End}
 use Rattle.lines.specs.declared.End.the-variants as D
@@ -17,7 +16,7 @@ use Rattle.lines.specs.Legs as legs
 use Rattle.references.specs.declared.Ahead.{Ahead}
 use Rattle.references.specs.declared.Ahead.the-variants as A
 use Rattle.references.specs.declared.Outcome.the-variants as O
-use Rattle.references.specs.Reference.{outcome-with, Looks, Placed, Comes, RankedFor}
+use Rattle.references.specs.Reference.{outcome-with, Looks, Placed, Comes}
 
 module _ (e : End) (x : Course) where
   abbrev pub Ended-so : O.the-data → Type 0
@@ -53,27 +52,6 @@ module _ (t : Sheet) (c : Counts) (x : A.the-data) (looks : Looks t c x) where
   pub point-ahead : x ≡ A.PointAlongLine → (c .p ≡ 2) × (0 < c .n) × ((slots : ℕ) → outcome-with t slots ≡ legs.point-along-line t slots)
   unfolding Looks
   point-ahead is = rw is at looks
-
--- ---- the ranks and the scores of all points
-
-module _ (s : List ℕ) (c : Counts) (ranks : List ℕ) (scores : List Float) where
-  pub ranked-refused : (n a : ℕ) → RankedFor s c (A.Refused n a) ranks scores
-  unfolding RankedFor
-  ranked-refused n a = tt
-
-  pub ranked-all : RanksTo s c (c .p) ranks × ScoresTo s c (c .p) scores → (x : Ahead) → RankedFor s c x ranks scores
-  unfolding RankedFor
-  ranked-all h (A.Refused n a) = tt
-  ranked-all h A.Line = h
-  ranked-all h A.PointAlongLine = h
-
-  pub line-ranked : {x : Ahead} → x ≡ A.Line → RankedFor s c x ranks scores → RanksTo s c (c .p) ranks × ScoresTo s c (c .p) scores
-  unfolding RankedFor
-  line-ranked is h = rw is at h
-
-  pub point-ranked : {x : Ahead} → x ≡ A.PointAlongLine → RankedFor s c x ranks scores → RanksTo s c (c .p) ranks × ScoresTo s c (c .p) scores
-  unfolding RankedFor
-  point-ranked is h = rw is at h
 
 module _ (t : Sheet) (c : Counts) (o o₁ : decode.Outcome) (ids covered : List ℕ) (coverage : List Float) (e : End) (x : Course) (ends : Ends t c o₁ ids covered coverage e x) where
   pub ends-as : o ≡ o₁ → Ends t c o ids covered coverage e x

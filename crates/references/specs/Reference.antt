@@ -11,7 +11,6 @@ use Rattle.model.specs.View.{view}
 use Rattle.model.specs.Search.{bounded-astar}
 use Rattle.model.specs.Decode.{Course, refused, with-primary, outcome}
 use Rattle.model.specs.Decode as decode
-use Rattle.candidates.specs.Ranking.{RanksTo, ScoresTo}
 use Rattle.lines.specs.Legs.{Stands}
 use Rattle.lines.specs.Legs as legs
 use Rattle.lines.specs.declared.End.{End}
@@ -38,12 +37,6 @@ unfoldable pub Looks : Sheet → Counts → Ahead → Type 0
 Looks t c (A.Refused n a) = (slots : ℕ) → outcome-with t slots ≡ refused n a 0
 Looks t c A.Line = (0 < c .p) × (0 < c .n) × ((slots : ℕ) → outcome-with t slots ≡ legs.line t slots)
 Looks t c A.PointAlongLine = (c .p ≡ 2) × (0 < c .n) × ((slots : ℕ) → outcome-with t slots ≡ legs.point-along-line t slots)
-
--- where the legs come, the ranks and the scores of all points stand in the lent lists
-unfoldable pub RankedFor : List ℕ → Counts → Ahead → List ℕ → List Float → Type 0
-RankedFor s c (A.Refused n a) ranks scores = Unit {0}
-RankedFor s c A.Line ranks scores = RanksTo s c (c .p) ranks × ScoresTo s c (c .p) scores
-RankedFor s c A.PointAlongLine ranks scores = RanksTo s c (c .p) ranks × ScoresTo s c (c .p) scores
 
 -- ---- after the legs
 

@@ -1,7 +1,6 @@
 // One reference: its kind, its points and its legs, up to the walks at the ends.
 use candidates::closest;
 use candidates::closest::Points;
-use candidates::rank;
 use lines::Course;
 use lines::End;
 use lines::Legs;
@@ -21,10 +20,9 @@ ghost use Rattle.model.specs.Search.{bounded-astar};
 ghost use Rattle.model.specs.Decode.{outcome};
 ghost use Rattle.model.specs.Decode as decode;
 ghost use Rattle.model.specs.Call.{most-entries};
-ghost use Rattle.candidates.specs.Ranking.{ranks-size, scores-size};
 ghost use Rattle.search.specs.Areas.{columns, Sized};
 ghost use Rattle.lines.specs.Legs.{Ends};
-ghost use Rattle.references.specs.Reference.{Asks, Looks, RankedFor, Placed, Comes};
+ghost use Rattle.references.specs.Reference.{Asks, Looks, Placed, Comes};
 
 // How a reference ends before the walks at its ends: refused with its number, A and B, or with a course.
 pub enum Outcome {
@@ -49,11 +47,10 @@ fn legs_of(kind: usize) -> Ahead
     Ahead::Line
 }
 
-// Refusals 7 to 9, in the order of the table. Where the legs come, the ranks of all points stand in `ranks`, and the scores that legs ask for in `scores`.
-pub fn look_ahead(s: &[u8], c: Counts, ranks: &mut [u8], scores: &mut [f64]) -> Ahead
-    requires { ⌜ WellFormed (now s) c × (ranks-size ≤ length (now ranks)) × (scores-size ≤ length (now scores)) ⌝ }
-    ensures looks { λ r. ⌜ Looks (sheet-of (now (s .entry)) c) c r ⌝ }
-    ensures ranked { λ r. ⌜ RankedFor (now (s .entry)) c r (now (ranks .exit)) (now (scores .exit)) ⌝ }
+// Refusals 7 to 9, in the order of the table.
+pub fn look_ahead(s: &[u8], c: Counts) -> Ahead
+    requires { ⌜ WellFormed (now s) c ⌝ }
+    ensures { λ r. ⌜ Looks (sheet-of (now (s .entry)) c) c r ⌝ }
 {
     if POINT_ALONG_LINE < c.kind {
         return Ahead::Refused(7, c.kind);
@@ -61,7 +58,7 @@ pub fn look_ahead(s: &[u8], c: Counts, ranks: &mut [u8], scores: &mut [f64]) -> 
     if c.p == 0 {
         return Ahead::Refused(8, 0);
     }
-    let found = closest::require_candidates(s, c, ranks, scores);
+    let found = closest::require_close_candidate(s, c);
     match found {
         Points::Fine => legs_of(c.kind),
         Points::NoCandidate(i) => Ahead::Refused(9, i),
@@ -82,7 +79,7 @@ fn ended(run: Legs) -> Outcome
     }
 }
 
-// A reference up to the walks at its ends, with ranks for 1,024 rows, the counts of 16 points and ten scores for each: its path's road numbers in the front of `ids`, its coverages in the coverage areas.
+// A reference up to the walks at its ends: its path's road numbers in the front of `ids`, its coverages in the coverage areas.
 pub fn decode_legs(
     s: &[u8],
     c: Counts,
@@ -106,9 +103,7 @@ pub fn decode_legs(
     ensures { λ r. ⌜ Comes (sheet-of (now (s .entry)) c) c (outcome (view (sheet-of (now (s .entry)) c)) (bounded-astar slots)) (now (ids .exit)) (now (covered .exit)) (now (coverage .exit)) r ⌝ }
 {
     let set = points::settings(s, c);
-    let mut ranks = [0u8; rank::RANKS];
-    let mut scores = [0.0f64; rank::SCORES];
-    let ahead = look_ahead(s, c, &mut ranks, &mut scores);
+    let ahead = look_ahead(s, c);
     match ahead {
         Ahead::Refused(number, place) => Outcome::Refused(number, place, 0),
         Ahead::Line => {
@@ -116,8 +111,6 @@ pub fn decode_legs(
                 s,
                 c,
                 set,
-                &ranks,
-                &scores,
                 slots,
                 real,
                 penalised,
@@ -139,8 +132,6 @@ pub fn decode_legs(
                 s,
                 c,
                 set,
-                &ranks,
-                &scores,
                 slots,
                 real,
                 penalised,

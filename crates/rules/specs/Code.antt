@@ -8,15 +8,15 @@ use Rattle.model.specs.declared.Road.{Road}
 use Rattle.model.specs.Lists.{when}
 use Rattle.model.specs.Legs as legs
 use Rattle.model.specs.Legs.{Coverage, Scored, Pair, pair, terminal, whole}
-use Rattle.candidates.specs.declared.find.Terminal.{Terminal}
-use Rattle.candidates.specs.Found.{candidate-as}
+use Rattle.candidates.specs.declared.candidate.Candidate.{Candidate}
+use Rattle.candidates.specs.Found.{on}
 use Rattle.rules.specs.declared.Part.{Part}
 use Rattle.rules.specs.declared.Route.{Route}
 use Rattle.rules.specs.declared.Best.{Best}
 
--- the pair of which a leg reads these
-abbrev pub pair-as : Terminal → Terminal → Pair
-pair-as start end = pair (candidate-as start) (candidate-as end)
+-- the pair of two candidates, each with its road
+abbrev pub pair-as : Candidate → Road → Candidate → Road → Pair
+pair-as start first end last = pair (on first start) (on last end)
 
 abbrev pub part-of : Part → List Coverage
 part-of p = terminal (p .kept) (p .road) (p .metres)

@@ -1,30 +1,38 @@
 // Lengths, offsets and scores of the routes between a start and an end candidate.
 ghost use mathlib.Core.Path.{_≡_};
 ghost use Rattle.model.specs.Legs.{score-of, excellent, effective-min, effective-max, length-alone, fits-alone, start-offset, end-offset, length-over, fits-over, stays, middle-max};
-ghost use Rattle.candidates.specs.Found.{candidate-as};
+ghost use Rattle.candidates.specs.Found.{on};
 ghost use Rattle.rules.specs.Code.{pair-as};
 use crate::floats;
-use candidates::find::Terminal;
+use candidates::candidate::Candidate;
 use model::Limits;
+use model::Road;
 use road_network::spatial;
 
 // The metres from the start of the candidate's road to its point.
-pub fn start_offset(x: Terminal) -> f64
-    ensures { λ r. ⌜ r ≡ start-offset (candidate-as x) ⌝ }
+pub fn start_offset(x: Candidate, r: Road) -> f64
+    ensures { λ v. ⌜ v ≡ start-offset (on r x) ⌝ }
 {
-    x.road.metres * x.fraction
+    r.metres * x.fraction
 }
 
 // The metres from its point to the end of its road.
-pub fn end_offset(x: Terminal) -> f64
-    ensures { λ r. ⌜ r ≡ end-offset (candidate-as x) ⌝ }
+pub fn end_offset(x: Candidate, r: Road) -> f64
+    ensures { λ v. ⌜ v ≡ end-offset (on r x) ⌝ }
 {
-    x.road.metres * (1.0 - x.fraction)
+    r.metres * (1.0 - x.fraction)
 }
 
 // The candidates' scores and the length penalty of a route with this total length.
-pub fn score_of(b: Limits, start: Terminal, end: Terminal, total: f64) -> f64
-    ensures { λ r. ⌜ r ≡ score-of b (pair-as start end) total ⌝ }
+pub fn score_of(
+    b: Limits,
+    start: Candidate,
+    first: Road,
+    end: Candidate,
+    last: Road,
+    total: f64,
+) -> f64
+    ensures { λ r. ⌜ r ≡ score-of b (pair-as start first end last) total ⌝ }
 {
     let difference = spatial::abs(total - b.dnp);
     let divisor = floats::max(b.dnp, 1.0);
@@ -34,24 +42,28 @@ pub fn score_of(b: Limits, start: Terminal, end: Terminal, total: f64) -> f64
 // ---- both points on one road
 
 // An excellent match: both points strictly nearer than 5 metres.
-pub fn excellent(start: Terminal, end: Terminal) -> bool
-    ensures { λ r. ⌜ r ≡ excellent (pair-as start end) ⌝ }
+pub fn excellent(start: Candidate, first: Road, end: Candidate, last: Road) -> bool
+    ensures { λ r. ⌜ r ≡ excellent (pair-as start first end last) ⌝ }
 {
     start.distance < 5.0 && end.distance < 5.0
 }
 
 // The least length; an excellent match has none.
-pub fn effective_min(b: Limits, start: Terminal, end: Terminal) -> f64
-    ensures { λ r. ⌜ r ≡ effective-min b (pair-as start end) ⌝ }
+pub fn effective_min(b: Limits, start: Candidate, first: Road, end: Candidate, last: Road) -> f64
+    ensures { λ r. ⌜ r ≡ effective-min b (pair-as start first end last) ⌝ }
 {
-    if excellent(start, end) { 0.0 } else { b.least }
+    if excellent(start, first, end, last) {
+        0.0
+    } else {
+        b.least
+    }
 }
 
 // The greatest length; an excellent match has three times as much.
-pub fn effective_max(b: Limits, start: Terminal, end: Terminal) -> f64
-    ensures { λ r. ⌜ r ≡ effective-max b (pair-as start end) ⌝ }
+pub fn effective_max(b: Limits, start: Candidate, first: Road, end: Candidate, last: Road) -> f64
+    ensures { λ r. ⌜ r ≡ effective-max b (pair-as start first end last) ⌝ }
 {
-    if excellent(start, end) {
+    if excellent(start, first, end, last) {
         b.greatest * 3.0
     } else {
         b.greatest
@@ -59,35 +71,35 @@ pub fn effective_max(b: Limits, start: Terminal, end: Terminal) -> f64
 }
 
 // The metres between the two points on the start's road.
-pub fn length_alone(start: Terminal, end: Terminal) -> f64
-    ensures { λ r. ⌜ r ≡ length-alone (pair-as start end) ⌝ }
+pub fn length_alone(start: Candidate, first: Road, end: Candidate, last: Road) -> f64
+    ensures { λ r. ⌜ r ≡ length-alone (pair-as start first end last) ⌝ }
 {
-    start.road.metres * (end.fraction - start.fraction)
+    first.metres * (end.fraction - start.fraction)
 }
 
 // Whether the way from the start to the end on their road is a route.
-pub fn fits_alone(b: Limits, start: Terminal, end: Terminal) -> bool
-    ensures { λ r. ⌜ r ≡ fits-alone b (pair-as start end) ⌝ }
+pub fn fits_alone(b: Limits, start: Candidate, first: Road, end: Candidate, last: Road) -> bool
+    ensures { λ r. ⌜ r ≡ fits-alone b (pair-as start first end last) ⌝ }
 {
     if end.fraction - start.fraction <= 0.0 {
         return false;
     }
-    let length = length_alone(start, end);
-    if length < effective_min(b, start, end) {
+    let length = length_alone(start, first, end, last);
+    if length < effective_min(b, start, first, end, last) {
         return false;
     }
-    let greatest = effective_max(b, start, end);
+    let greatest = effective_max(b, start, first, end, last);
     !(greatest < length)
 }
 
 // ---- a route over several roads
 
 // The whole length, with this cost between the two roads.
-pub fn length_over(start: Terminal, end: Terminal, cost: f64) -> f64
-    ensures { λ r. ⌜ r ≡ length-over (pair-as start end) cost ⌝ }
+pub fn length_over(start: Candidate, first: Road, end: Candidate, last: Road, cost: f64) -> f64
+    ensures { λ r. ⌜ r ≡ length-over (pair-as start first end last) cost ⌝ }
 {
-    let start_part = end_offset(start);
-    let end_part = start_offset(end);
+    let start_part = end_offset(start, first);
+    let end_part = start_offset(end, last);
     start_part + cost + end_part
 }
 
@@ -112,10 +124,10 @@ pub fn stays(part: f64, total: f64) -> bool
 }
 
 // How far a search between the two roads may go.
-pub fn middle_max(b: Limits, start: Terminal, end: Terminal) -> f64
-    ensures { λ r. ⌜ r ≡ middle-max b (pair-as start end) ⌝ }
+pub fn middle_max(b: Limits, start: Candidate, first: Road, end: Candidate, last: Road) -> f64
+    ensures { λ r. ⌜ r ≡ middle-max b (pair-as start first end last) ⌝ }
 {
-    let start_part = end_offset(start);
-    let end_part = start_offset(end);
+    let start_part = end_offset(start, first);
+    let end_part = start_offset(end, last);
     b.reach - start_part - end_part
 }

@@ -11,7 +11,7 @@ use crate::Best;
 use crate::Part;
 use crate::Route;
 use crate::lengths;
-use candidates::find::Terminal;
+use candidates::candidate::Candidate;
 use model::Limits;
 use model::Road;
 
@@ -49,15 +49,14 @@ pub fn no_best() -> Best
 }
 
 // The route of a pair on the start's road, if its length fits.
-pub fn on_one_road(b: Limits, start: Terminal, end: Terminal) -> Best
-    ensures { λ r. ⌜ Stands r (on-one-road b (pair-as start end)) ⌝ }
+pub fn on_one_road(b: Limits, start: Candidate, first: Road, end: Candidate, last: Road) -> Best
+    ensures { λ r. ⌜ Stands r (on-one-road b (pair-as start first end last)) ⌝ }
 {
-    let road = start.road;
-    let total = lengths::length_alone(start, end);
-    let found = lengths::fits_alone(b, start, end);
-    let score = lengths::score_of(b, start, end, total);
-    let start_offset = lengths::start_offset(start);
-    let end_offset = road.metres * (1.0 - end.fraction);
+    let total = lengths::length_alone(start, first, end, last);
+    let found = lengths::fits_alone(b, start, first, end, last);
+    let score = lengths::score_of(b, start, first, end, last, total);
+    let start_offset = lengths::start_offset(start, first);
+    let end_offset = first.metres * (1.0 - end.fraction);
     Best {
         found,
         score,
@@ -67,13 +66,13 @@ pub fn on_one_road(b: Limits, start: Terminal, end: Terminal) -> Best
             end_offset,
             head: Part {
                 kept: true,
-                road,
+                road: first,
                 metres: total,
             },
             count: 0,
             tail: Part {
                 kept: false,
-                road,
+                road: first,
                 metres: 0.0,
             },
         },

@@ -1,6 +1,6 @@
-use Rattle.references.proofs.Ending.{refused-ahead, line-ahead, point-ahead, ends-as, places, line-ranked, point-ranked}
-use Rattle.model.specs.Sheet.{sheet-of}
 use native.Mathlib.Omega.{arith}
+use Rattle.model.specs.Sheet.{sheet-of}
+use Rattle.references.proofs.Ending.{refused-ahead, line-ahead, point-ahead, ends-as, places}
 use borrow.Author.Needs.{needs}
 use Rattle.references.proofs.decode_legs.Statement.{statement}
 use Rattle.references.proofs.decode_legs.Tie as tie
@@ -8,14 +8,8 @@ use Rattle.references.proofs.decode_legs.Tie as tie
 settings-requires : tie.Need-settings-requires
 settings-requires c κs = search needs
 
-slice-aggregate-look-ahead : tie.Need-slice-aggregate-look-ahead
-slice-aggregate-look-ahead c = search needs
-
-slice-aggregate-look-ahead-2 : tie.Need-slice-aggregate-look-ahead-2
-slice-aggregate-look-ahead-2 c = search needs
-
 look-ahead-requires : tie.Need-look-ahead-requires
-look-ahead-requires c κs = (c .before .before .before .before .before .before .before .before .before .before .before .before .before .before .before .before .pre .0, omega arith, omega arith)
+look-ahead-requires c κs = c .before .before .before .before .before .before .before .before .before .before .before .before .before .before .pre .0
 
 enum-known-ahead : tie.Need-enum-known-ahead
 enum-known-ahead c = search needs
@@ -23,46 +17,32 @@ enum-known-ahead c = search needs
 enum-told : tie.Need-enum-told
 enum-told c = search needs
 
-slice-aggregate-decode-line : tie.Need-slice-aggregate-decode-line
-slice-aggregate-decode-line c = search needs
-
-slice-aggregate-decode-line-2 : tie.Need-slice-aggregate-decode-line-2
-slice-aggregate-decode-line-2 c = search needs
-
 decode-line-requires : tie.Need-decode-line-requires
-decode-line-requires c κs = let a = c .before .before .before .before .before .before .before .before .before .before .before .before .before .before .before .before .before .before .before .before .before .before .before .before .before .before .before .before .before .before .before .before .before .before .before .args in
-    let p = c .before .before .before .before .before .before .before .before .before .before .before .before .before .before .before .before .before .before .before .before .before .before .before .before .before .before .before .before .before .before .before .before .before .before .before .pre in
-    let ahead = line-ahead (sheet-of (a .s .now) (a .c)) (a .c) (c .before .before .before .before .before .before .before .before .before .before .before .before .before .before .before .before .before .before .look-ahead .result) (c .before .before .before .before .before .before .before .before .before .before .before .before .before .before .before .before .before .before .look-ahead .ensures .0) (c .before .before .before .before .before .before .before .before .before .before .before .before .before .before .enum-told .given .1) in
-    let ranked = line-ranked (a .s .now) (a .c) (c .before .before .before .before .before .before .before .before .before .before .before .before .before .before .before .before .before .before .look-ahead .last .1 .1 .0) (c .before .before .before .before .before .before .before .before .before .before .before .before .before .before .before .before .before .before .look-ahead .last .1 .1 .1 .0) (c .before .before .before .before .before .before .before .before .before .before .before .before .before .before .enum-told .given .1) (c .before .before .before .before .before .before .before .before .before .before .before .before .before .before .before .before .before .before .look-ahead .ensures .1) in
-    ((p .0, c .before .before .before .before .before .before .before .before .before .before .before .before .before .before .before .before .before .before .before .before .before .settings .ensures, ahead .1, omega (arith, c .before .before .before .before .before .before .before .before .before .before .before .before .before .before .before .before .before .before .look-ahead .kept .1 .1 .0), ranked .0, omega (arith, c .before .before .before .before .before .before .before .before .before .before .before .before .before .before .before .before .before .before .look-ahead .kept .1 .1 .1 .0), ranked .1), p .1)
+decode-line-requires c κs = let a = c .before .before .before .before .before .before .before .before .before .before .before .before .before .before .before .before .before .before .before .before .before .before .before .before .before .before .before .before .before .args in
+    let p = c .before .before .before .before .before .before .before .before .before .before .before .before .before .before .before .before .before .before .before .before .before .before .before .before .before .before .before .before .before .pre in
+    let ahead = line-ahead (sheet-of (a .s .now) (a .c)) (a .c) (c .before .before .before .before .before .before .before .before .before .before .before .before .before .before .look-ahead .result) (c .before .before .before .before .before .before .before .before .before .before .before .before .before .before .look-ahead .ensures) (c .before .before .before .before .before .before .before .before .before .before .before .before .enum-told .given .1) in
+    ((p .0, c .before .before .before .before .before .before .before .before .before .before .before .before .before .before .before .settings .ensures, ahead .1, ahead .0), p .1)
 
 ended-requires : tie.Need-ended-requires
-ended-requires c κs = let a = c .before .before .before .before .before .before .before .before .before .before .before .before .before .before .before .before .before .before .before .before .before .before .before .before .before .before .before .before .before .before .before .before .before .before .before .before .before .before .before .before .before .before .before .before .before .before .before .before .before .before .before .before .before .before .before .before .before .before .before .before .args in
-    places (sheet-of (a .s .now) (a .c)) (a .c) (c .before .before .before .before .before .before .before .before .before .before .before .before .before .before .before .before .before .before .before .before .before .before .before .before .before .before .before .before .before .before .before .before .before .before .before .before .before .before .before .before .before .before .before .before .before .before .before .before .before .before .before .before .before .before .before .before .before .before .before .before .pre .0 .sound .small .p) _ _ _ _ _ _ (c .before .before .before .before .before .before .before .before .before .before .before .before .before .before .before .before .before .before .before .before .before .before .before .before .decode-line .ensures)
+ended-requires c κs = let a = c .before .before .before .before .before .before .before .before .before .before .before .before .before .before .before .before .before .before .before .before .before .before .before .before .before .before .before .before .before .before .before .before .before .before .before .before .before .before .before .before .before .before .before .before .before .before .before .before .before .before .before .before .before .before .args in
+    places (sheet-of (a .s .now) (a .c)) (a .c) (c .before .before .before .before .before .before .before .before .before .before .before .before .before .before .before .before .before .before .before .before .before .before .before .before .before .before .before .before .before .before .before .before .before .before .before .before .before .before .before .before .before .before .before .before .before .before .before .before .before .before .before .before .before .before .pre .0 .sound .small .p) _ _ _ _ _ _ (c .before .before .before .before .before .before .before .before .before .before .before .before .before .before .before .before .before .before .before .before .before .before .before .before .decode-line .ensures)
 
 enum-told-2 : tie.Need-enum-told-2
 enum-told-2 c = search needs
 
-slice-aggregate-decode-point-along-line : tie.Need-slice-aggregate-decode-point-along-line
-slice-aggregate-decode-point-along-line c = search needs
-
-slice-aggregate-decode-point-along-line-2 : tie.Need-slice-aggregate-decode-point-along-line-2
-slice-aggregate-decode-point-along-line-2 c = search needs
-
 decode-point-along-line-requires : tie.Need-decode-point-along-line-requires
-decode-point-along-line-requires c κs = let a = c .before .before .before .before .before .before .before .before .before .before .before .before .before .before .before .before .before .before .before .before .before .before .before .before .before .before .before .before .before .before .before .before .before .before .before .args in
-    let p = c .before .before .before .before .before .before .before .before .before .before .before .before .before .before .before .before .before .before .before .before .before .before .before .before .before .before .before .before .before .before .before .before .before .before .before .pre in
-    let ahead = point-ahead (sheet-of (a .s .now) (a .c)) (a .c) (c .before .before .before .before .before .before .before .before .before .before .before .before .before .before .before .before .before .before .look-ahead .result) (c .before .before .before .before .before .before .before .before .before .before .before .before .before .before .before .before .before .before .look-ahead .ensures .0) (c .before .before .before .before .before .before .before .before .before .before .before .before .before .before .enum-told2 .given .1) in
-    let ranked = point-ranked (a .s .now) (a .c) (c .before .before .before .before .before .before .before .before .before .before .before .before .before .before .before .before .before .before .look-ahead .last .1 .1 .0) (c .before .before .before .before .before .before .before .before .before .before .before .before .before .before .before .before .before .before .look-ahead .last .1 .1 .1 .0) (c .before .before .before .before .before .before .before .before .before .before .before .before .before .before .enum-told2 .given .1) (c .before .before .before .before .before .before .before .before .before .before .before .before .before .before .before .before .before .before .look-ahead .ensures .1) in
-    ((p .0, c .before .before .before .before .before .before .before .before .before .before .before .before .before .before .before .before .before .before .before .before .before .settings .ensures, ahead .1, ahead .0, omega (arith, c .before .before .before .before .before .before .before .before .before .before .before .before .before .before .before .before .before .before .look-ahead .kept .1 .1 .0), ranked .0, omega (arith, c .before .before .before .before .before .before .before .before .before .before .before .before .before .before .before .before .before .before .look-ahead .kept .1 .1 .1 .0), ranked .1), p .1)
+decode-point-along-line-requires c κs = let a = c .before .before .before .before .before .before .before .before .before .before .before .before .before .before .before .before .before .before .before .before .before .before .before .before .before .before .before .before .before .args in
+    let p = c .before .before .before .before .before .before .before .before .before .before .before .before .before .before .before .before .before .before .before .before .before .before .before .before .before .before .before .before .before .pre in
+    let ahead = point-ahead (sheet-of (a .s .now) (a .c)) (a .c) (c .before .before .before .before .before .before .before .before .before .before .before .before .before .before .look-ahead .result) (c .before .before .before .before .before .before .before .before .before .before .before .before .before .before .look-ahead .ensures) (c .before .before .before .before .before .before .before .before .before .before .before .before .enum-told2 .given .1) in
+    ((p .0, c .before .before .before .before .before .before .before .before .before .before .before .before .before .before .before .settings .ensures, ahead .1, ahead .0), p .1)
 
 ended-requires-2 : tie.Need-ended-requires-2
-ended-requires-2 c κs = let a = c .before .before .before .before .before .before .before .before .before .before .before .before .before .before .before .before .before .before .before .before .before .before .before .before .before .before .before .before .before .before .before .before .before .before .before .before .before .before .before .before .before .before .before .before .before .before .before .before .before .before .before .before .before .before .before .before .before .before .before .before .args in
-    places (sheet-of (a .s .now) (a .c)) (a .c) (c .before .before .before .before .before .before .before .before .before .before .before .before .before .before .before .before .before .before .before .before .before .before .before .before .before .before .before .before .before .before .before .before .before .before .before .before .before .before .before .before .before .before .before .before .before .before .before .before .before .before .before .before .before .before .before .before .before .before .before .before .pre .0 .sound .small .p) _ _ _ _ _ _ (c .before .before .before .before .before .before .before .before .before .before .before .before .before .before .before .before .before .before .before .before .before .before .before .before .decode-point-along-line .ensures)
+ended-requires-2 c κs = let a = c .before .before .before .before .before .before .before .before .before .before .before .before .before .before .before .before .before .before .before .before .before .before .before .before .before .before .before .before .before .before .before .before .before .before .before .before .before .before .before .before .before .before .before .before .before .before .before .before .before .before .before .before .before .before .args in
+    places (sheet-of (a .s .now) (a .c)) (a .c) (c .before .before .before .before .before .before .before .before .before .before .before .before .before .before .before .before .before .before .before .before .before .before .before .before .before .before .before .before .before .before .before .before .before .before .before .before .before .before .before .before .before .before .before .before .before .before .before .before .before .before .before .before .before .before .pre .0 .sound .small .p) _ _ _ _ _ _ (c .before .before .before .before .before .before .before .before .before .before .before .before .before .before .before .before .before .before .before .before .before .before .before .before .decode-point-along-line .ensures)
 
 returns : tie.Need-returns
-returns c = let a = c .before .before .before .before .before .before .before .before .before .before .before .before .before .before .before .before .before .before .before .before .before .before .args in
-    refused-ahead (sheet-of (a .s .now) (a .c)) (a .c) (c .before .before .before .before .before .look-ahead .result) (c .before .before .before .before .before .look-ahead .ensures .0) _ _ (c .before .ahead .given .1) (a .slots) _ _ _
+returns c = let a = c .before .before .before .before .before .before .before .before .before .before .before .before .before .before .before .before .before .before .args in
+    refused-ahead (sheet-of (a .s .now) (a .c)) (a .c) (c .before .before .before .look-ahead .result) (c .before .before .before .look-ahead .ensures) _ _ (c .before .ahead .given .1) (a .slots) _ _ _
 
 same-length : tie.Need-same-length
 same-length c = search needs
@@ -101,9 +81,9 @@ same-length-12 : tie.Need-same-length-12
 same-length-12 c = search needs
 
 returns-2 : tie.Need-returns-2
-returns-2 c = let a = c .before .before .before .before .before .before .before .before .before .before .before .before .before .before .before .before .before .before .before .before .before .before .before .before .before .before .before .before .before .before .before .before .before .before .before .before .before .before .before .before .before .before .before .before .before .before .before .before .before .before .before .before .before .before .before .before .before .before .before .before .before .args in
+returns-2 c = let a = c .before .before .before .before .before .before .before .before .before .before .before .before .before .before .before .before .before .before .before .before .before .before .before .before .before .before .before .before .before .before .before .before .before .before .before .before .before .before .before .before .before .before .before .before .before .before .before .before .before .before .before .before .before .before .before .args in
     let t = sheet-of (a .s .now) (a .c) in
-    let ahead = line-ahead t (a .c) (c .before .before .before .before .before .before .before .before .before .before .before .before .before .before .before .before .before .before .before .before .before .before .before .before .before .before .before .before .before .before .before .before .before .before .before .before .before .before .before .before .before .before .before .before .look-ahead .result) (c .before .before .before .before .before .before .before .before .before .before .before .before .before .before .before .before .before .before .before .before .before .before .before .before .before .before .before .before .before .before .before .before .before .before .before .before .before .before .before .before .before .before .before .before .look-ahead .ensures .0) (c .before .before .before .before .before .before .before .before .before .before .before .before .before .before .before .before .before .before .before .before .before .before .before .before .before .before .before .before .before .before .before .before .before .before .before .before .before .before .before .before .enum-told .given .1) in
+    let ahead = line-ahead t (a .c) (c .before .before .before .before .before .before .before .before .before .before .before .before .before .before .before .before .before .before .before .before .before .before .before .before .before .before .before .before .before .before .before .before .before .before .before .before .before .before .before .before .look-ahead .result) (c .before .before .before .before .before .before .before .before .before .before .before .before .before .before .before .before .before .before .before .before .before .before .before .before .before .before .before .before .before .before .before .before .before .before .before .before .before .before .before .before .look-ahead .ensures) (c .before .before .before .before .before .before .before .before .before .before .before .before .before .before .before .before .before .before .before .before .before .before .before .before .before .before .before .before .before .before .before .before .before .before .before .before .before .before .enum-told .given .1) in
     c .ended .ensures t (a .c) _ _ _ _ (ahead .0) (ends-as t (a .c) _ _ _ _ _ _ _ (c .before .before .before .before .before .before .before .before .before .before .before .before .before .before .before .before .before .before .before .before .before .before .before .before .before .decode-line .ensures) (ahead .2 (a .slots)))
 
 same-length-13 : tie.Need-same-length-13
@@ -143,9 +123,9 @@ same-length-24 : tie.Need-same-length-24
 same-length-24 c = search needs
 
 returns-3 : tie.Need-returns-3
-returns-3 c = let a = c .before .before .before .before .before .before .before .before .before .before .before .before .before .before .before .before .before .before .before .before .before .before .before .before .before .before .before .before .before .before .before .before .before .before .before .before .before .before .before .before .before .before .before .before .before .before .before .before .before .before .before .before .before .before .before .before .before .before .before .before .before .args in
+returns-3 c = let a = c .before .before .before .before .before .before .before .before .before .before .before .before .before .before .before .before .before .before .before .before .before .before .before .before .before .before .before .before .before .before .before .before .before .before .before .before .before .before .before .before .before .before .before .before .before .before .before .before .before .before .before .before .before .before .before .args in
     let t = sheet-of (a .s .now) (a .c) in
-    let ahead = point-ahead t (a .c) (c .before .before .before .before .before .before .before .before .before .before .before .before .before .before .before .before .before .before .before .before .before .before .before .before .before .before .before .before .before .before .before .before .before .before .before .before .before .before .before .before .before .before .before .before .look-ahead .result) (c .before .before .before .before .before .before .before .before .before .before .before .before .before .before .before .before .before .before .before .before .before .before .before .before .before .before .before .before .before .before .before .before .before .before .before .before .before .before .before .before .before .before .before .before .look-ahead .ensures .0) (c .before .before .before .before .before .before .before .before .before .before .before .before .before .before .before .before .before .before .before .before .before .before .before .before .before .before .before .before .before .before .before .before .before .before .before .before .before .before .before .before .enum-told2 .given .1) in
+    let ahead = point-ahead t (a .c) (c .before .before .before .before .before .before .before .before .before .before .before .before .before .before .before .before .before .before .before .before .before .before .before .before .before .before .before .before .before .before .before .before .before .before .before .before .before .before .before .before .look-ahead .result) (c .before .before .before .before .before .before .before .before .before .before .before .before .before .before .before .before .before .before .before .before .before .before .before .before .before .before .before .before .before .before .before .before .before .before .before .before .before .before .before .before .look-ahead .ensures) (c .before .before .before .before .before .before .before .before .before .before .before .before .before .before .before .before .before .before .before .before .before .before .before .before .before .before .before .before .before .before .before .before .before .before .before .before .before .before .enum-told2 .given .1) in
     c .ended2 .ensures t (a .c) _ _ _ _ (omega (arith, ahead .0)) (ends-as t (a .c) _ _ _ _ _ _ _ (c .before .before .before .before .before .before .before .before .before .before .before .before .before .before .before .before .before .before .before .before .before .before .before .before .before .decode-point-along-line .ensures) (ahead .2 (a .slots)))
 
 pub decode-legs-spec : {M : Type 1} → statement M
@@ -153,18 +133,12 @@ decode-legs-spec =
     tie.close
     (tie.spec
     settings-requires
-    slice-aggregate-look-ahead
-    slice-aggregate-look-ahead-2
     look-ahead-requires
     enum-known-ahead
     enum-told
-    slice-aggregate-decode-line
-    slice-aggregate-decode-line-2
     decode-line-requires
     ended-requires
     enum-told-2
-    slice-aggregate-decode-point-along-line
-    slice-aggregate-decode-point-along-line-2
     decode-point-along-line-requires
     ended-requires-2
     returns

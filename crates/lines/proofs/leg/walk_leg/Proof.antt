@@ -1,9 +1,9 @@
-use mathlib.Core.Path.{_∙_}
-use native.Mathlib.Omega.{arith}
-use Prim.Native.Nat.{_<_}
-use Rattle.lines.proofs.Owned.{leg-known}
-use Rattle.lines.proofs.Leaving.{sought-is, leaves-as}
 use Rattle.model.specs.Sheet.{sheet-of}
+use Rattle.lines.proofs.Leaving.{sought-is, leaves-as}
+use Rattle.lines.proofs.Owned.{leg-known}
+use Prim.Native.Nat.{_<_}
+use native.Mathlib.Omega.{arith}
+use mathlib.Core.Path.{_∙_}
 use borrow.Author.Needs.{needs}
 use Rattle.lines.proofs.leg.walk_leg.Statement.{statement}
 use Rattle.lines.proofs.leg.walk_leg.Tie as tie
@@ -11,28 +11,15 @@ use Rattle.lines.proofs.leg.walk_leg.Tie as tie
 leg-limits-requires : tie.Need-leg-limits-requires
 leg-limits-requires c κs = search needs
 
-shortlist-of-requires : tie.Need-shortlist-of-requires
-shortlist-of-requires c κs = let p = c .before .before .before .before .before .before .before .before .before .before .before .before .before .before .before .before .pre .0 in
-    let h : c .before .before .before .before .before .before .before .before .before .before .before .before .before .before .before .before .args .i < c .before .before .before .before .before .before .before .before .before .before .before .before .before .before .before .before .args .c .p = omega (arith, p .3) in
-    (p .0, h, p .5, p .6 _ h)
-
-add-next : tie.Need-add-next
-add-next c = omega (arith, c .before .before .before .before .before .before .before .before .before .before .before .before .before .before .before .before .before .pre .0 .3, c .before .before .before .before .before .before .before .before .before .before .before .before .before .before .before .before .before .pre .0 .0 .sound .small .p)
-
-shortlist-of-requires-2 : tie.Need-shortlist-of-requires-2
-shortlist-of-requires-2 c κs = let p = c .before .before .before .before .before .before .before .before .before .before .before .before .before .before .before .before .before .pre .0 in
-    (p .0, p .3, p .5, p .6 _ (p .3))
-
 find-best-path-requires : tie.Need-find-best-path-requires
-find-best-path-requires c κs = let p = c .before .before .before .before .before .before .before .before .before .before .before .before .before .before .before .before .before .before .before .before .before .before .before .before .before .before .before .pre in let a = c .before .before .before .before .before .before .before .before .before .before .shortlist-of .ensures .1 in let b = c .before .before .before .before .before .before .before .before .before .shortlist-of2 .ensures .1 in
-    ((p .0 .0, p .0 .1, p .0 .2, a, b, p .0 .5, p .0 .6 _ (a .below), p .0 .6 _ (b .below), p .0 .7, p .0 .8 _ (a .below), p .0 .8 _ (b .below)), p .1 .1)
+find-best-path-requires c κs = let p = c .before .before .before .before .before .before .before .before .before .before .before .before .before .before .before .before .before .before .before .before .before .before .before .pre in ((p .0 .0, p .0 .1, p .0 .2, p .0 .5 .ready, p .0 .6 .ready), p .1 .1)
 
 leave-requires : tie.Need-leave-requires
-leave-requires c κs = let a = c .before .before .before .before .before .before .before .before .before .before .before .before .before .before .before .before .before .before .before .before .before .before .before .before .before .before .before .before .before .before .before .before .before .before .before .before .before .before .before .before .before .before .before .before .before .before .before .before .before .before .args in
-    let p = c .before .before .before .before .before .before .before .before .before .before .before .before .before .before .before .before .before .before .before .before .before .before .before .before .before .before .before .before .before .before .before .before .before .before .before .before .before .before .before .before .before .before .before .before .before .before .before .before .before .before .pre in
+leave-requires c κs = let a = c .before .before .before .before .before .before .before .before .before .before .before .before .before .before .before .before .before .before .before .before .before .before .before .before .before .before .before .before .before .before .before .before .before .before .before .before .before .before .before .before .before .before .before .before .before .before .args in
+    let p = c .before .before .before .before .before .before .before .before .before .before .before .before .before .before .before .before .before .before .before .before .before .before .before .before .before .before .before .before .before .before .before .before .before .before .before .before .before .before .before .before .before .before .before .before .before .before .pre in
     let f = c .before .before .before .before .before .before .before .before .before .before .before .before .before .before .before .before .before .before .before .before .before .before .find-best-path in
-    let is = f .ensures .0 ∙ sought-is (sheet-of (a .s .now) (a .c)) (a .slots) (a .i) (c .before .before .before .before .before .before .before .before .before .before .before .before .before .before .before .before .before .before .before .before .before .before .before .before .before .before .before .before .before .before .before .before .before .before .leg-limits .ensures) (c .before .before .before .before .before .before .before .before .before .before .before .before .before .before .before .before .before .before .before .before .before .before .before .before .before .before .before .before .before .before .before .before .before .shortlist-of .ensures .0) (c .before .before .before .before .before .before .before .before .before .before .before .before .before .before .before .before .before .before .before .before .before .before .before .before .before .before .before .before .before .before .before .before .shortlist-of2 .ensures .0) in
-    ((p .0 .0, leg-known (a .s .now) (a .c) (p .0 .0) (a .slots) (a .i) (p .0 .3) (f .result) (f .last .1 .1 .1 .1 .1 .1 .1 .1 .1 .1 .1 .1 .1 .0) is (f .ensures .1) (omega (arith, p .1 .1 .2, f .kept .1 .1 .1 .1 .1 .1 .1 .1 .1 .1 .1 .1 .1 .0)), p .0 .4), p .1 .0)
+    let is = f .ensures .0 ∙ sought-is (sheet-of (a .s .now) (a .c)) (a .slots) (a .i) (c .before .before .before .before .before .before .before .before .before .before .before .before .before .before .before .before .before .before .before .before .before .before .before .before .before .before .before .before .before .before .before .before .leg-limits .ensures) (c .before .before .before .before .before .before .before .before .before .before .before .before .before .before .before .before .before .before .before .before .before .before .before .before .before .before .before .before .before .before .before .before .before .before .before .before .before .before .before .before .before .before .before .before .before .before .pre .0 .5 .are) (c .before .before .before .before .before .before .before .before .before .before .before .before .before .before .before .before .before .before .before .before .before .before .before .before .before .before .before .before .before .before .before .before .before .before .before .before .before .before .before .before .before .before .before .before .before .before .pre .0 .6 .are) in
+    ((p .0 .0, leg-known (a .s .now) (a .c) (p .0 .0) (a .slots) (a .i) (p .0 .3) (f .result) (f .last .1 .1 .1 .1 .1 .1 .1 .1 .1 .1 .1 .0) is (f .ensures .1) (omega (arith, p .1 .1 .2, f .kept .1 .1 .1 .1 .1 .1 .1 .1 .1 .1 .1 .0)), p .0 .4), p .1 .0)
 
 same-length : tie.Need-same-length
 same-length c = search needs
@@ -71,18 +58,15 @@ same-length-12 : tie.Need-same-length-12
 same-length-12 c = search needs
 
 returns : tie.Need-returns
-returns c = let a = c .before .before .before .before .before .before .before .before .before .before .before .before .before .before .before .before .before .before .before .before .before .before .before .before .before .before .before .before .before .before .before .before .before .before .before .before .before .before .before .before .before .before .before .before .before .before .before .before .before .before .before .before .before .before .before .before .before .args in
+returns c = let a = c .before .before .before .before .before .before .before .before .before .before .before .before .before .before .before .before .before .before .before .before .before .before .before .before .before .before .before .before .before .before .before .before .before .before .before .before .before .before .before .before .before .before .before .before .before .before .before .before .before .before .before .before .before .args in
     let f = c .before .before .before .before .before .before .before .before .before .before .before .before .before .before .before .before .before .before .before .before .before .before .before .before .before .before .before .before .before .find-best-path in
-    leaves-as _ _ _ _ _ _ _ _ _ _ (c .before .before .before .before .before .before .before .before .before .before .before .before .before .before .before .before .before .before .before .before .before .before .before .before .before .before .before .before .before .before .before .before .before .before .before .before .before .before .before .before .before .leg-limits .ensures) (f .ensures .0 ∙ sought-is (sheet-of (a .s .now) (a .c)) (a .slots) (a .i) (c .before .before .before .before .before .before .before .before .before .before .before .before .before .before .before .before .before .before .before .before .before .before .before .before .before .before .before .before .before .before .before .before .before .before .before .before .before .before .before .before .before .leg-limits .ensures) (c .before .before .before .before .before .before .before .before .before .before .before .before .before .before .before .before .before .before .before .before .before .before .before .before .before .before .before .before .before .before .before .before .before .before .before .before .before .before .before .before .shortlist-of .ensures .0) (c .before .before .before .before .before .before .before .before .before .before .before .before .before .before .before .before .before .before .before .before .before .before .before .before .before .before .before .before .before .before .before .before .before .before .before .before .before .before .before .shortlist-of2 .ensures .0)) (c .before .before .before .before .before .before .leave .ensures)
+    leaves-as _ _ _ _ _ _ _ _ _ _ (c .before .before .before .before .before .before .before .before .before .before .before .before .before .before .before .before .before .before .before .before .before .before .before .before .before .before .before .before .before .before .before .before .before .before .before .before .before .before .before .leg-limits .ensures) (f .ensures .0 ∙ sought-is (sheet-of (a .s .now) (a .c)) (a .slots) (a .i) (c .before .before .before .before .before .before .before .before .before .before .before .before .before .before .before .before .before .before .before .before .before .before .before .before .before .before .before .before .before .before .before .before .before .before .before .before .before .before .before .leg-limits .ensures) (c .before .before .before .before .before .before .before .before .before .before .before .before .before .before .before .before .before .before .before .before .before .before .before .before .before .before .before .before .before .before .before .before .before .before .before .before .before .before .before .before .before .before .before .before .before .before .before .before .before .before .before .before .before .pre .0 .5 .are) (c .before .before .before .before .before .before .before .before .before .before .before .before .before .before .before .before .before .before .before .before .before .before .before .before .before .before .before .before .before .before .before .before .before .before .before .before .before .before .before .before .before .before .before .before .before .before .before .before .before .before .before .before .before .pre .0 .6 .are)) (c .before .before .before .before .before .before .leave .ensures)
 
 pub walk-leg-spec : {M : Type 1} → statement M
 walk-leg-spec =
     tie.close
     (tie.spec
     leg-limits-requires
-    shortlist-of-requires
-    add-next
-    shortlist-of-requires-2
     find-best-path-requires
     leave-requires
     same-length

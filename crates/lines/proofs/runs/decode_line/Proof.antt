@@ -1,68 +1,79 @@
-use mathlib.Core.Path.{_≡_, refl, sym, _∙_, subst}
-use native.Mathlib.Omega.{arith}
-use borrow.Author.Needs.{needs}
-use lib.ListN.{length}
-use Rattle.search.specs.Areas.{columns}
-use Rattle.search.proofs.Growth.{sized-on, sizes-on}
+use Prim.Native.Nat.{_+_, _-_, _≤_, _<_}
+use Rattle.model.specs.Sheet.{sheet-of}
+use Rattle.candidates.specs.Found.{Lists}
+use Rattle.lines.proofs.Going.{tail-split, tail-long, Going, going-start, stands-now, room, nearer, next-one, going-on, going-end, short-leg, few-entries}
 use Rattle.legs.proofs.Going.{Kept, kept-start}
-use Prim.Native.Nat.{_-_, _≤_}
-use Rattle.lines.proofs.Going.{tail-split, tail-long, Going, going-start, stands-now, room, nearer, going-on, going-end, short-leg, few-entries}
+use Rattle.search.proofs.Growth.{sized-on, sizes-on}
+use Rattle.search.specs.Areas.{columns}
+use lib.ListN.{length}
+use borrow.Author.Needs.{needs}
+use native.Mathlib.Omega.{arith}
+use mathlib.Core.Path.{_≡_, refl, sym, _∙_, subst}
 use Rattle.lines.proofs.runs.decode_line.Statement.{statement}
 use Rattle.lines.proofs.runs.decode_line.Tie as tie
 
 abbrev Inv-loop : tie.InvT-loop
-Inv-loop s c set ranks scores slots real₀ penalised₀ came-from₀ route₀ best-route₀ key₀ cost₀ node₀ order₀ covered₀ coverage₀ ids₀ points run₀ real penalised came-from route best-route key cost node order covered coverage ids run =
+Inv-loop s c set slots real₀ penalised₀ came-from₀ route₀ best-route₀ key₀ cost₀ node₀ order₀ covered₀ coverage₀ ids₀ points run₀ starts₀ real penalised came-from route best-route key cost node order covered coverage ids run starts =
     Kept (columns real₀ penalised₀ came-from₀ key₀ cost₀ node₀ order₀ 0 0) (columns real penalised came-from key cost node order 0 0) route₀ route best-route₀ best-route
-    × (length covered ≡ length covered₀) × (length coverage ≡ length coverage₀) × (length ids ≡ length ids₀) × Going s c slots ids covered coverage run
+    × (length covered ≡ length covered₀) × (length coverage ≡ length coverage₀) × (length ids ≡ length ids₀) × Going s c slots ids covered coverage run × (run .next + 1 < c .p → Lists (sheet-of s c) c (run .next) starts)
 
 abbrev μ-loop : tie.MeasureT-loop
-μ-loop s c set ranks scores slots real₀ penalised₀ came-from₀ route₀ best-route₀ key₀ cost₀ node₀ order₀ covered₀ coverage₀ ids₀ points run₀ real penalised came-from route best-route key cost node order covered coverage ids run =
+μ-loop s c set slots real₀ penalised₀ came-from₀ route₀ best-route₀ key₀ cost₀ node₀ order₀ covered₀ coverage₀ ids₀ points run₀ starts₀ real penalised came-from route best-route key cost node order covered coverage ids run starts =
     points - run .next
 
 begin-requires : tie.Need-begin-requires Inv-loop μ-loop
 begin-requires c κs = search needs
 
+find-candidates-requires : tie.Need-find-candidates-requires Inv-loop μ-loop
+find-candidates-requires c κs = (c .before .before .before .before .before .before .before .before .before .before .before .before .before .before .pre .0 .0, c .before .before .before .before .before .before .before .before .before .before .before .before .before .before .pre .0 .3, c .before .before .before .before .before .before .before .before .before .before .before .before .before .before .pre .0 .1)
+
 loop-holds : tie.Need-loop-holds Inv-loop μ-loop
-loop-holds c = (kept-start _ _ _, refl, refl, refl, subst (Going _ _ _ _ _ _) (sym (c .begin .ensures)) (going-start _ _ _ _ _ _))
+loop-holds c = (kept-start _ _ _, refl, refl, refl, subst (Going _ _ _ _ _ _) (sym (c .before .begin .ensures)) (going-start _ _ _ _ _ _), λ h. rw (c .before .begin .ensures) (c .find-candidates .ensures))
 
 add-if1 : tie.Need-add-if1 Inv-loop μ-loop
-add-if1 c = omega (arith, c .before .loop .inv .4 .in-range, c .before .before .before .before .before .before .before .before .before .before .before .before .before .before .before .before .before .before .pre .0 .0 .sound .small .p)
+add-if1 c = omega (arith, c .before .loop .inv .4 .in-range, c .before .before .before .before .before .before .before .before .before .before .before .before .before .before .before .before .before .pre .0 .0 .sound .small .p)
 
 last-written-requires : tie.Need-last-written-requires Inv-loop μ-loop
 last-written-requires c κs = let a = c .before .before .before .loop in
     let now = stands-now _ _ _ (a .inv .4) (c .before .if1 .taken) in
-    omega (arith, room _ _ _ (a .inv .4) (c .before .if1 .taken) _ (now .2 .few-roads), a .inv .3, c .before .before .before .before .before .before .before .before .before .before .before .before .before .before .before .before .before .before .before .before .pre .1 .0 .2)
+    omega (arith, room _ _ _ (a .inv .4) (c .before .if1 .taken) _ (now .2 .few-roads), a .inv .3, c .before .before .before .before .before .before .before .before .before .before .before .before .before .before .before .before .before .before .before .pre .1 .0 .2)
+
+add-to : tie.Need-add-to Inv-loop μ-loop
+add-to c = omega (arith, c .before .before .before .before .before .loop .inv .4 .in-range, c .before .before .before .before .before .before .before .before .before .before .before .before .before .before .before .before .before .before .before .before .before .pre .0 .0 .sound .small .p)
+
+find-candidates-requires-2 : tie.Need-find-candidates-requires-2 Inv-loop μ-loop
+find-candidates-requires-2 c κs = (c .before .before .before .before .before .before .before .before .before .before .before .before .before .before .before .before .before .before .before .before .before .pre .0 .0, c .before .before .before .if1 .taken, c .before .before .before .before .before .before .before .before .before .before .before .before .before .before .before .before .before .before .before .before .before .pre .0 .1)
 
 mul-walk-leg : tie.Need-mul-walk-leg Inv-loop μ-loop
-mul-walk-leg c = let a = c .before .before .before .before .before .before .before .before .before .before .before .before .before .before .before .loop in
-    let now = stands-now _ _ _ (a .inv .4) (c .before .before .before .before .before .before .before .before .before .before .before .before .before .if1 .taken) in
-    let w = c .before .before .before .before .before .before .before .before .before .before .before .before .before .before .before .before .before .before .before .before .before .before .before .before .before .before .before .before .before .before .before .before .pre .0 .0 in
-    omega (arith, room _ _ _ (a .inv .4) (c .before .before .before .before .before .before .before .before .before .before .before .before .before .if1 .taken) _ (now .2 .few-roads), few-entries (c .before .before .before .before .before .before .before .before .before .before .before .before .before .before .before .before .before .before .before .before .before .before .before .before .before .before .before .before .before .before .before .before .args .s .now) (c .before .before .before .before .before .before .before .before .before .before .before .before .before .before .before .before .before .before .before .before .before .before .before .before .before .before .before .before .before .before .before .before .args .c) (c .before .before .before .before .before .before .before .before .before .before .before .before .before .before .before .before .before .before .before .before .before .before .before .before .before .before .before .before .before .before .before .before .args .slots) (w .sound .small .p) (w .sound .small .n))
+mul-walk-leg c = let a = c .before .before .before .before .before .before .before .before .before .before .before .before .before .before .before .before .before .loop in
+    let now = stands-now _ _ _ (a .inv .4) (c .before .before .before .before .before .before .before .before .before .before .before .before .before .before .before .if1 .taken) in
+    let w = c .before .before .before .before .before .before .before .before .before .before .before .before .before .before .before .before .before .before .before .before .before .before .before .before .before .before .before .before .before .before .before .before .before .pre .0 .0 in
+    omega (arith, room _ _ _ (a .inv .4) (c .before .before .before .before .before .before .before .before .before .before .before .before .before .before .before .if1 .taken) _ (now .2 .few-roads), few-entries (c .before .before .before .before .before .before .before .before .before .before .before .before .before .before .before .before .before .before .before .before .before .before .before .before .before .before .before .before .before .before .before .before .before .args .s .now) (c .before .before .before .before .before .before .before .before .before .before .before .before .before .before .before .before .before .before .before .before .before .before .before .before .before .before .before .before .before .before .before .before .before .args .c) (c .before .before .before .before .before .before .before .before .before .before .before .before .before .before .before .before .before .before .before .before .before .before .before .before .before .before .before .before .before .before .before .before .before .args .slots) (w .sound .small .p) (w .sound .small .n))
 
 sub-walk-leg : tie.Need-sub-walk-leg Inv-loop μ-loop
-sub-walk-leg c = let a = c .before .before .before .before .before .before .before .before .before .before .before .before .before .before .before .loop in
-    let now = stands-now _ _ _ (a .inv .4) (c .before .before .before .before .before .before .before .before .before .before .before .before .before .if1 .taken) in
-    omega (arith, room _ _ _ (a .inv .4) (c .before .before .before .before .before .before .before .before .before .before .before .before .before .if1 .taken) _ (now .2 .few-roads), a .inv .3, c .before .before .before .before .before .before .before .before .before .before .before .before .before .before .before .before .before .before .before .before .before .before .before .before .before .before .before .before .before .before .before .before .pre .1 .0 .2)
+sub-walk-leg c = let a = c .before .before .before .before .before .before .before .before .before .before .before .before .before .before .before .before .before .loop in
+    let now = stands-now _ _ _ (a .inv .4) (c .before .before .before .before .before .before .before .before .before .before .before .before .before .before .before .if1 .taken) in
+    omega (arith, room _ _ _ (a .inv .4) (c .before .before .before .before .before .before .before .before .before .before .before .before .before .before .before .if1 .taken) _ (now .2 .few-roads), a .inv .3, c .before .before .before .before .before .before .before .before .before .before .before .before .before .before .before .before .before .before .before .before .before .before .before .before .before .before .before .before .before .before .before .before .before .pre .1 .0 .2)
 
 part-walk-leg-start : tie.Need-part-walk-leg-start Inv-loop μ-loop
-part-walk-leg-start c = let a = c .before .before .before .before .before .before .before .before .before .before .before .before .before .before .before .loop in
-    let now = stands-now _ _ _ (a .inv .4) (c .before .before .before .before .before .before .before .before .before .before .before .before .before .if1 .taken) in
-    omega (arith, room _ _ _ (a .inv .4) (c .before .before .before .before .before .before .before .before .before .before .before .before .before .if1 .taken) _ (now .2 .few-roads), a .inv .3, c .before .before .before .before .before .before .before .before .before .before .before .before .before .before .before .before .before .before .before .before .before .before .before .before .before .before .before .before .before .before .before .before .pre .1 .0 .2)
+part-walk-leg-start c = let a = c .before .before .before .before .before .before .before .before .before .before .before .before .before .before .before .before .before .loop in
+    let now = stands-now _ _ _ (a .inv .4) (c .before .before .before .before .before .before .before .before .before .before .before .before .before .before .before .if1 .taken) in
+    omega (arith, room _ _ _ (a .inv .4) (c .before .before .before .before .before .before .before .before .before .before .before .before .before .before .before .if1 .taken) _ (now .2 .few-roads), a .inv .3, c .before .before .before .before .before .before .before .before .before .before .before .before .before .before .before .before .before .before .before .before .before .before .before .before .before .before .before .before .before .before .before .before .before .pre .1 .0 .2)
 
 part-walk-leg-end : tie.Need-part-walk-leg-end Inv-loop μ-loop
-part-walk-leg-end c = let a = c .before .before .before .before .before .before .before .before .before .before .before .before .before .before .before .loop in
-    let now = stands-now _ _ _ (a .inv .4) (c .before .before .before .before .before .before .before .before .before .before .before .before .before .if1 .taken) in
-    omega (arith, room _ _ _ (a .inv .4) (c .before .before .before .before .before .before .before .before .before .before .before .before .before .if1 .taken) _ (now .2 .few-roads), a .inv .3, c .before .before .before .before .before .before .before .before .before .before .before .before .before .before .before .before .before .before .before .before .before .before .before .before .before .before .before .before .before .before .before .before .pre .1 .0 .2)
+part-walk-leg-end c = let a = c .before .before .before .before .before .before .before .before .before .before .before .before .before .before .before .before .before .loop in
+    let now = stands-now _ _ _ (a .inv .4) (c .before .before .before .before .before .before .before .before .before .before .before .before .before .before .before .if1 .taken) in
+    omega (arith, room _ _ _ (a .inv .4) (c .before .before .before .before .before .before .before .before .before .before .before .before .before .before .before .if1 .taken) _ (now .2 .few-roads), a .inv .3, c .before .before .before .before .before .before .before .before .before .before .before .before .before .before .before .before .before .before .before .before .before .before .before .before .before .before .before .before .before .before .before .before .before .pre .1 .0 .2)
 
 walk-leg-requires : tie.Need-walk-leg-requires Inv-loop μ-loop
-walk-leg-requires c κs = let a = c .before .before .before .before .before .before .before .before .before .before .before .before .before .before .before .before .loop in
-    let p = c .before .before .before .before .before .before .before .before .before .before .before .before .before .before .before .before .before .before .before .before .before .before .before .before .before .before .before .before .before .before .before .before .before .pre in
-    let now = stands-now _ _ _ (a .inv .4) (c .before .before .before .before .before .before .before .before .before .before .before .before .before .before .if1 .taken) in
-    let roads = room _ _ _ (a .inv .4) (c .before .before .before .before .before .before .before .before .before .before .before .before .before .before .if1 .taken) _ (now .2 .few-roads) in
-    let covers = room _ _ _ (a .inv .4) (c .before .before .before .before .before .before .before .before .before .before .before .before .before .before .if1 .taken) _ (now .2 .few-coverages) in
+walk-leg-requires c κs = let a = c .before .before .before .before .before .before .before .before .before .before .before .before .before .before .before .before .before .before .loop in
+    let p = c .before .before .before .before .before .before .before .before .before .before .before .before .before .before .before .before .before .before .before .before .before .before .before .before .before .before .before .before .before .before .before .before .before .before .pre in
+    let now = stands-now _ _ _ (a .inv .4) (c .before .before .before .before .before .before .before .before .before .before .before .before .before .before .before .before .if1 .taken) in
+    let roads = room _ _ _ (a .inv .4) (c .before .before .before .before .before .before .before .before .before .before .before .before .before .before .before .before .if1 .taken) _ (now .2 .few-roads) in
+    let covers = room _ _ _ (a .inv .4) (c .before .before .before .before .before .before .before .before .before .before .before .before .before .before .before .before .if1 .taken) _ (now .2 .few-coverages) in
     let kept = a .inv .0 in
     let long = tail-long (a .ids) (a .run .course .written) (omega (arith, roads, a .inv .3, p .1 .0 .2)) in (
-      (p .0 .0, p .0 .1, p .0 .2, c .before .before .before .before .before .before .before .before .before .before .before .before .before .before .if1 .taken, now .2 .below, p .0 .3, p .0 .4, p .0 .5, p .0 .6),
+      (p .0 .0, p .0 .1, p .0 .2, c .before .before .before .before .before .before .before .before .before .before .before .before .before .before .before .before .if1 .taken, now .2 .below, a .inv .5 (c .before .before .before .before .before .before .before .before .before .before .before .before .before .before .before .before .if1 .taken), c .before .before .before .before .before .before .before .before .before .before .before .before .find-candidates2 .ensures),
       (
         (omega (arith, covers, a .inv .1, p .1 .0 .0), omega (arith, covers, a .inv .2, p .1 .0 .1), omega (arith, roads, a .inv .3, p .1 .0 .2, long)),
         (p .1 .1 .0, omega (arith, kept .route, p .1 .1 .1), omega (arith, kept .best-route, p .1 .1 .2), sized-on (p .1 .1 .3) (kept .sizes)),
@@ -70,23 +81,23 @@ walk-leg-requires c κs = let a = c .before .before .before .before .before .bef
     )
 
 advance-requires : tie.Need-advance-requires Inv-loop μ-loop
-advance-requires c κs = let a = c .before .before .before .before .before .before .before .before .before .before .before .before .before .before .before .before .before .before .before .before .before .before .before .before .before .before .before .before .before .before .before .before .before .before .before .before .before .before .before .before .before .loop in
-    let w = c .before .before .before .before .before .before .before .before .before .before .before .before .before .before .before .before .before .before .before .before .before .before .before .before .before .before .before .before .before .before .before .before .before .before .before .before .before .before .before .before .before .before .before .before .before .before .before .before .before .before .before .before .before .before .before .before .before .before .pre .0 .0 in
-    let now = stands-now _ _ _ (a .inv .4) (c .before .before .before .before .before .before .before .before .before .before .before .before .before .before .before .before .before .before .before .before .before .before .before .before .before .before .before .before .before .before .before .before .before .before .before .before .before .before .before .if1 .taken) in
-    let few = few-entries (c .before .before .before .before .before .before .before .before .before .before .before .before .before .before .before .before .before .before .before .before .before .before .before .before .before .before .before .before .before .before .before .before .before .before .before .before .before .before .before .before .before .before .before .before .before .before .before .before .before .before .before .before .before .before .before .before .before .before .args .s .now) (c .before .before .before .before .before .before .before .before .before .before .before .before .before .before .before .before .before .before .before .before .before .before .before .before .before .before .before .before .before .before .before .before .before .before .before .before .before .before .before .before .before .before .before .before .before .before .before .before .before .before .before .before .before .before .before .before .before .before .args .c) (c .before .before .before .before .before .before .before .before .before .before .before .before .before .before .before .before .before .before .before .before .before .before .before .before .before .before .before .before .before .before .before .before .before .before .before .before .before .before .before .before .before .before .before .before .before .before .before .before .before .before .before .before .before .before .before .before .before .before .args .slots) (w .sound .small .p) (w .sound .small .n) in
-    (omega (arith, a .inv .4 .in-range, w .sound .small .p), omega (arith, room _ _ _ (a .inv .4) (c .before .before .before .before .before .before .before .before .before .before .before .before .before .before .before .before .before .before .before .before .before .before .before .before .before .before .before .before .before .before .before .before .before .before .before .before .before .before .before .if1 .taken) _ (now .2 .few-roads), few), short-leg _ _ (c .before .before .before .before .before .before .before .before .before .before .before .before .before .before .before .before .before .before .before .before .before .before .before .before .before .before .before .before .before .before .before .before .before .before .before .before .before .before .before .before .before .before .before .before .before .before .before .before .before .before .before .before .before .before .before .before .before .before .args .slots) (w .sound .small .n) _ _ _ _ _ _ _ _ _ (c .before .before .before .before .before .before .before .before .before .before .before .before .before .before .before .before .before .before .before .before .before .before .before .before .walk-leg .result) (c .before .before .before .before .before .before .before .before .before .before .before .before .before .before .before .before .before .before .before .before .before .before .before .before .walk-leg .ensures))
+advance-requires c κs = let a = c .before .before .before .before .before .before .before .before .before .before .before .before .before .before .before .before .before .before .before .before .before .before .before .before .before .before .before .before .before .before .before .before .before .before .before .before .before .before .before .before .before .before .before .loop in
+    let w = c .before .before .before .before .before .before .before .before .before .before .before .before .before .before .before .before .before .before .before .before .before .before .before .before .before .before .before .before .before .before .before .before .before .before .before .before .before .before .before .before .before .before .before .before .before .before .before .before .before .before .before .before .before .before .before .before .before .before .before .pre .0 .0 in
+    let now = stands-now _ _ _ (a .inv .4) (c .before .before .before .before .before .before .before .before .before .before .before .before .before .before .before .before .before .before .before .before .before .before .before .before .before .before .before .before .before .before .before .before .before .before .before .before .before .before .before .before .before .if1 .taken) in
+    let few = few-entries (c .before .before .before .before .before .before .before .before .before .before .before .before .before .before .before .before .before .before .before .before .before .before .before .before .before .before .before .before .before .before .before .before .before .before .before .before .before .before .before .before .before .before .before .before .before .before .before .before .before .before .before .before .before .before .before .before .before .before .before .args .s .now) (c .before .before .before .before .before .before .before .before .before .before .before .before .before .before .before .before .before .before .before .before .before .before .before .before .before .before .before .before .before .before .before .before .before .before .before .before .before .before .before .before .before .before .before .before .before .before .before .before .before .before .before .before .before .before .before .before .before .before .before .args .c) (c .before .before .before .before .before .before .before .before .before .before .before .before .before .before .before .before .before .before .before .before .before .before .before .before .before .before .before .before .before .before .before .before .before .before .before .before .before .before .before .before .before .before .before .before .before .before .before .before .before .before .before .before .before .before .before .before .before .before .before .args .slots) (w .sound .small .p) (w .sound .small .n) in
+    (omega (arith, a .inv .4 .in-range, w .sound .small .p), omega (arith, room _ _ _ (a .inv .4) (c .before .before .before .before .before .before .before .before .before .before .before .before .before .before .before .before .before .before .before .before .before .before .before .before .before .before .before .before .before .before .before .before .before .before .before .before .before .before .before .before .before .if1 .taken) _ (now .2 .few-roads), few), short-leg _ _ (c .before .before .before .before .before .before .before .before .before .before .before .before .before .before .before .before .before .before .before .before .before .before .before .before .before .before .before .before .before .before .before .before .before .before .before .before .before .before .before .before .before .before .before .before .before .before .before .before .before .before .before .before .before .before .before .before .before .before .before .args .slots) (w .sound .small .n) _ _ _ _ _ _ _ _ _ (c .before .before .before .before .before .before .before .before .before .before .before .before .before .before .before .before .before .before .before .before .before .before .before .before .walk-leg .result) (c .before .before .before .before .before .before .before .before .before .before .before .before .before .before .before .before .before .before .before .before .before .before .before .before .walk-leg .ensures))
 
 loop-less : tie.Need-loop-less Inv-loop μ-loop
-loop-less c = rw (c .advance .ensures) (nearer _ _ _ (c .before .before .before .before .before .before .before .before .before .before .before .before .before .before .before .before .before .before .before .before .before .before .before .before .before .before .before .before .before .before .before .before .before .before .before .before .before .before .before .before .before .before .loop .inv .4) (c .before .before .before .before .before .before .before .before .before .before .before .before .before .before .before .before .before .before .before .before .before .before .before .before .before .before .before .before .before .before .before .before .before .before .before .before .before .before .before .before .if1 .taken) (c .before .before .before .before .before .before .before .before .before .before .before .before .before .before .before .before .before .before .before .before .before .before .before .before .before .walk-leg .result))
+loop-less c = rw (c .advance .ensures) (nearer _ _ _ (c .before .before .before .before .before .before .before .before .before .before .before .before .before .before .before .before .before .before .before .before .before .before .before .before .before .before .before .before .before .before .before .before .before .before .before .before .before .before .before .before .before .before .before .before .loop .inv .4) (c .before .before .before .before .before .before .before .before .before .before .before .before .before .before .before .before .before .before .before .before .before .before .before .before .before .before .before .before .before .before .before .before .before .before .before .before .before .before .before .before .before .before .if1 .taken) (c .before .before .before .before .before .before .before .before .before .before .before .before .before .before .before .before .before .before .before .before .before .before .before .before .before .walk-leg .result))
 
 loop-again : tie.Need-loop-again Inv-loop μ-loop
-loop-again c = let a = c .before .before .before .before .before .before .before .before .before .before .before .before .before .before .before .before .before .before .before .before .before .before .before .before .before .before .before .before .before .before .before .before .before .before .before .before .before .before .before .before .before .before .loop in
-    let p = c .before .before .before .before .before .before .before .before .before .before .before .before .before .before .before .before .before .before .before .before .before .before .before .before .before .before .before .before .before .before .before .before .before .before .before .before .before .before .before .before .before .before .before .before .before .before .before .before .before .before .before .before .before .before .before .before .before .before .before .pre in
+loop-again c = let a = c .before .before .before .before .before .before .before .before .before .before .before .before .before .before .before .before .before .before .before .before .before .before .before .before .before .before .before .before .before .before .before .before .before .before .before .before .before .before .before .before .before .before .before .before .loop in
+    let p = c .before .before .before .before .before .before .before .before .before .before .before .before .before .before .before .before .before .before .before .before .before .before .before .before .before .before .before .before .before .before .before .before .before .before .before .before .before .before .before .before .before .before .before .before .before .before .before .before .before .before .before .before .before .before .before .before .before .before .before .before .pre in
     let k = c .before .before .before .before .before .before .before .before .before .before .before .before .before .before .before .before .before .before .before .before .before .before .before .before .before .walk-leg .kept .1 .1 .1 .1 .1 .1 .1 .1 .1 .1 in
     let l = c .before .before .before .before .before .before .before .before .before .before .before .before .before .before .before .before .before .before .before .before .before .before .before .before .before .walk-leg .last .1 .1 .1 .1 .1 .1 .1 .1 .1 .1 in
     let at = a .run .course .written in
-    let now = stands-now _ _ _ (a .inv .4) (c .before .before .before .before .before .before .before .before .before .before .before .before .before .before .before .before .before .before .before .before .before .before .before .before .before .before .before .before .before .before .before .before .before .before .before .before .before .before .before .before .if1 .taken) in
-    let roads = room _ _ _ (a .inv .4) (c .before .before .before .before .before .before .before .before .before .before .before .before .before .before .before .before .before .before .before .before .before .before .before .before .before .before .before .before .before .before .before .before .before .before .before .before .before .before .before .before .if1 .taken) _ (now .2 .few-roads) in
+    let now = stands-now _ _ _ (a .inv .4) (c .before .before .before .before .before .before .before .before .before .before .before .before .before .before .before .before .before .before .before .before .before .before .before .before .before .before .before .before .before .before .before .before .before .before .before .before .before .before .before .before .before .before .if1 .taken) in
+    let roads = room _ _ _ (a .inv .4) (c .before .before .before .before .before .before .before .before .before .before .before .before .before .before .before .before .before .before .before .before .before .before .before .before .before .before .before .before .before .before .before .before .before .before .before .before .before .before .before .before .before .before .if1 .taken) _ (now .2 .few-roads) in
     let fits : at ≤ length (a .ids) = omega (arith, roads, a .inv .3, p .1 .0 .2) in
     let long = k .1 .1 .1 .1 .1 .1 .1 .1 .1 .1 .1 .0 ∙ tail-long (a .ids) at fits in
     let out = l .1 .1 .1 .1 .1 .1 .1 .1 .1 .1 .1 .0 in (
@@ -98,7 +109,8 @@ loop-again c = let a = c .before .before .before .before .before .before .before
       k .1 .1 .1 .1 .1 .1 .1 .1 .1 .0 ∙ a .inv .1,
       k .1 .1 .1 .1 .1 .1 .1 .1 .1 .1 .0 ∙ a .inv .2,
       c .before .before .ids .given .1 ∙ a .inv .3,
-      rw (c .advance .ensures) (going-on _ _ _ (a .inv .4) (c .before .before .before .before .before .before .before .before .before .before .before .before .before .before .before .before .before .before .before .before .before .before .before .before .before .before .before .before .before .before .before .before .before .before .before .before .before .before .before .before .if1 .taken) _ out _ _ (λ m h. tail-split (a .ids) out _ at m fits (omega (arith, roads, a .inv .3, p .1 .0 .2, long))) (c .before .before .before .before .before .before .before .before .before .before .before .before .before .before .before .before .before .before .before .before .before .before .before .before .before .walk-leg .result) (rw (c .before .before .before .before .before .before .before .before .before .before .before .before .before .before .before .before .before .before .before .before .before .before .before .before .before .before .before .before .before .before .before .before .before .before .before .before .before .before .last-written .ensures) at (c .before .before .before .before .before .before .before .before .before .before .before .before .before .before .before .before .before .before .before .before .before .before .before .before .before .walk-leg .ensures))),
+      rw (c .advance .ensures) (going-on _ _ _ (a .inv .4) (c .before .before .before .before .before .before .before .before .before .before .before .before .before .before .before .before .before .before .before .before .before .before .before .before .before .before .before .before .before .before .before .before .before .before .before .before .before .before .before .before .before .before .if1 .taken) _ out _ _ (λ m h. tail-split (a .ids) out _ at m fits (omega (arith, roads, a .inv .3, p .1 .0 .2, long))) (c .before .before .before .before .before .before .before .before .before .before .before .before .before .before .before .before .before .before .before .before .before .before .before .before .before .walk-leg .result) (rw (c .before .before .before .before .before .before .before .before .before .before .before .before .before .before .before .before .before .before .before .before .before .before .before .before .before .before .before .before .before .before .before .before .before .before .before .before .before .before .before .before .last-written .ensures) at (c .before .before .before .before .before .before .before .before .before .before .before .before .before .before .before .before .before .before .before .before .before .before .before .before .before .walk-leg .ensures))),
+      (rw (c .advance .ensures) (λ h. rw (next-one _ _ _ (a .inv .4) (c .before .before .before .before .before .before .before .before .before .before .before .before .before .before .before .before .before .before .before .before .before .before .before .before .before .before .before .before .before .before .before .before .before .before .before .before .before .before .before .before .before .before .if1 .taken) (c .before .before .before .before .before .before .before .before .before .before .before .before .before .before .before .before .before .before .before .before .before .before .before .before .before .walk-leg .result) h) (c .before .before .before .before .before .before .before .before .before .before .before .before .before .before .before .before .before .before .before .before .before .before .before .before .before .before .before .before .before .before .before .before .before .before .before .before .before .before .find-candidates2 .ensures))),
     )
 
 same-length : tie.Need-same-length Inv-loop μ-loop
@@ -147,9 +159,12 @@ decode-line-spec =
     Inv-loop
     μ-loop
     begin-requires
+    find-candidates-requires
     loop-holds
     add-if1
     last-written-requires
+    add-to
+    find-candidates-requires-2
     mul-walk-leg
     sub-walk-leg
     part-walk-leg-start

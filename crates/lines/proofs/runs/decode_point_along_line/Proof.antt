@@ -1,7 +1,7 @@
-use native.Mathlib.Omega.{arith}
-use Rattle.lines.proofs.Going.{alone-ends, room-first}
-use Rattle.model.specs.Lists.{tab}
 use Rattle.courses.specs.Left.{last-of, coverages-at}
+use Rattle.model.specs.Lists.{tab}
+use Rattle.lines.proofs.Going.{alone-ends, room-first}
+use native.Mathlib.Omega.{arith}
 use borrow.Author.Needs.{needs}
 use Rattle.lines.proofs.runs.decode_point_along_line.Statement.{statement}
 use Rattle.lines.proofs.runs.decode_point_along_line.Tie as tie
@@ -9,11 +9,17 @@ use Rattle.lines.proofs.runs.decode_point_along_line.Tie as tie
 begin-requires : tie.Need-begin-requires
 begin-requires c κs = search needs
 
+find-candidates-requires : tie.Need-find-candidates-requires
+find-candidates-requires c κs = (c .before .before .before .before .before .before .before .before .before .before .before .before .before .before .pre .0 .0, omega (arith, c .before .before .before .before .before .before .before .before .before .before .before .before .before .before .pre .0 .3), c .before .before .before .before .before .before .before .before .before .before .before .before .before .before .pre .0 .1)
+
+find-candidates-requires-2 : tie.Need-find-candidates-requires-2
+find-candidates-requires-2 c κs = (c .before .before .before .before .before .before .before .before .before .before .before .before .before .before .before .pre .0 .0, omega (arith, c .before .before .before .before .before .before .before .before .before .before .before .before .before .before .before .pre .0 .3), c .before .before .before .before .before .before .before .before .before .before .before .before .before .before .before .pre .0 .1)
+
 walk-leg-requires : tie.Need-walk-leg-requires
 walk-leg-requires c κs = let a = c .before .before .before .before .before .before .before .before .before .before .before .before .before .before .before .before .before .before .before .before .before .before .before .before .before .before .before .before .args in
     let p = c .before .before .before .before .before .before .before .before .before .before .before .before .before .before .before .before .before .before .before .before .before .before .before .before .before .before .before .before .pre in
     let r = room-first (a .s .now) (a .c) (a .slots) in
-    ((p .0 .0, p .0 .1, p .0 .2, omega (arith, p .0 .3), λ j h. absurd (omega arith), p .0 .4, p .0 .5, p .0 .6, p .0 .7), ((omega (arith, r, p .1 .0 .0), omega (arith, r, p .1 .0 .1), omega (arith, r, p .1 .0 .2)), p .1 .1))
+    ((p .0 .0, p .0 .1, p .0 .2, omega (arith, p .0 .3), λ j h. absurd (omega arith), c .before .before .before .before .before .before .before .before .before .before .before .before .before .find-candidates .ensures, c .before .before .before .before .before .before .before .before .before .before .before .before .find-candidates2 .ensures), ((omega (arith, r, p .1 .0 .0), omega (arith, r, p .1 .0 .1), omega (arith, r, p .1 .0 .2)), p .1 .1))
 
 alone-requires : tie.Need-alone-requires
 alone-requires c κs = search needs
@@ -58,13 +64,15 @@ returns : tie.Need-returns
 unfolding last-of coverages-at tab
 returns c = let a = c .before .before .before .before .before .before .before .before .before .before .before .before .before .before .before .before .before .before .before .before .before .before .before .before .before .before .before .before .before .before .before .before .before .before .before .before .before .before .before .before .before .before .before .before .before .before .before .before .before .before .before .before .before .before .args in
     let p = c .before .before .before .before .before .before .before .before .before .before .before .before .before .before .before .before .before .before .before .before .before .before .before .before .before .before .before .before .before .before .before .before .before .before .before .before .before .before .before .before .before .before .before .before .before .before .before .before .before .before .before .before .before .before .pre in
-    rw (c .alone .ensures, c .before .before .before .before .before .before .before .before .before .before .before .before .before .before .before .before .before .before .before .before .before .before .before .before .before .before .before .before .before .before .before .before .before .before .before .before .before .before .begin .ensures) (alone-ends (a .s .now) (a .c) (a .slots) (p .0 .3) _ _ _ (c .before .before .before .before .before .before .before .before .before .before .before .before .before .before .before .before .before .before .before .before .before .before .before .before .before .walk-leg .result) (c .before .before .before .before .before .before .before .before .before .before .before .before .before .before .before .before .before .before .before .before .before .before .before .before .before .walk-leg .ensures))
+    rw (c .alone .ensures, c .before .before .before .before .before .before .before .before .before .before .before .before .before .before .before .before .before .before .before .before .before .before .before .before .before .before .before .before .before .before .before .before .before .before .before .before .before .before .before .before .begin .ensures) (alone-ends (a .s .now) (a .c) (a .slots) (p .0 .3) _ _ _ (c .before .before .before .before .before .before .before .before .before .before .before .before .before .before .before .before .before .before .before .before .before .before .before .before .before .walk-leg .result) (c .before .before .before .before .before .before .before .before .before .before .before .before .before .before .before .before .before .before .before .before .before .before .before .before .before .walk-leg .ensures))
 
 pub decode-point-along-line-spec : {M : Type 1} → statement M
 decode-point-along-line-spec =
     tie.close
     (tie.spec
     begin-requires
+    find-candidates-requires
+    find-candidates-requires-2
     walk-leg-requires
     alone-requires
     same-length

@@ -20,13 +20,13 @@ enum-told-2 : tie.Need-enum-told-2
 enum-told-2 c = search needs
 
 returns : tie.Need-returns
-returns c = let s = c .before .before .before .before .before .args in by-found (s .b) (pair-as (s .start) (s .end)) (s .best) (s .m) _ _ (c .before .before .before .m .given .1) (c .before .route-over .result) (c .before .route-over .ensures .0) (c .before .route-over .ensures .1) (c .take-better .result) (c .take-better .ensures)
+returns c = let s = c .before .before .before .before .before .args in by-found (s .b) (pair-as (s .start) (s .first) (s .end) (s .last)) (s .best) (s .m) _ _ (c .before .before .before .m .given .1) (c .before .route-over .result) (c .before .route-over .ensures .0) (c .before .route-over .ensures .1) (c .take-better .result) (c .take-better .ensures)
 
 returns-2 : tie.Need-returns-2
-returns-2 c = let s = c .before .before .args in by-none (s .b) (pair-as (s .start) (s .end)) (s .best) (s .m) (c .enum-told .given .1)
+returns-2 c = let s = c .before .before .args in by-none (s .b) (pair-as (s .start) (s .first) (s .end) (s .last)) (s .best) (s .m) (c .enum-told .given .1)
 
 returns-3 : tie.Need-returns-3
-returns-3 c = let s = c .before .before .args in by-full (s .b) (pair-as (s .start) (s .end)) (s .best) (s .m) (c .enum-told2 .given .1)
+returns-3 c = let s = c .before .before .args in by-full (s .b) (pair-as (s .start) (s .first) (s .end) (s .last)) (s .best) (s .m) (c .enum-told2 .given .1)
 
 pub reach-spec : {M : Type 1} → statement M
 reach-spec =

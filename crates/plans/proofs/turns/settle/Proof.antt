@@ -26,16 +26,16 @@ reach-requires : tie.Need-reach-requires
 reach-requires c κs = search needs
 
 returns : tie.Need-returns
-returns c = let s = c .before .before .args in by-enough (s .b) (pair-as (s .start) (s .end)) (s .best) (s .m) (s .p) (c .enum-told .given .1)
+returns c = let s = c .before .before .args in by-enough (s .b) (pair-as (s .start) (s .first) (s .end) (s .last)) (s .best) (s .m) (s .p) (c .enum-told .given .1)
 
 returns-2 : tie.Need-returns-2
-returns-2 c = let s = c .before .before .args in by-nothing (s .b) (pair-as (s .start) (s .end)) (s .best) (s .m) (s .p) (c .enum-told2 .given .1)
+returns-2 c = let s = c .before .before .args in by-nothing (s .b) (pair-as (s .start) (s .first) (s .end) (s .last)) (s .best) (s .m) (s .p) (c .enum-told2 .given .1)
 
 returns-3 : tie.Need-returns-3
-returns-3 c = let s = c .before .before .before .before .before .args in by-alone (s .b) (pair-as (s .start) (s .end)) (s .best) (s .m) (s .p) _ (c .before .without-middle .result) (c .before .before .before .p .given .1) (c .before .without-middle .ensures .0) (c .before .without-middle .ensures .1) (c .take-better .result) (c .take-better .ensures)
+returns-3 c = let s = c .before .before .before .before .before .args in by-alone (s .b) (pair-as (s .start) (s .first) (s .end) (s .last)) (s .best) (s .m) (s .p) _ (c .before .without-middle .result) (c .before .before .before .p .given .1) (c .before .without-middle .ensures .0) (c .before .without-middle .ensures .1) (c .take-better .result) (c .take-better .ensures)
 
 returns-4 : tie.Need-returns-4
-returns-4 c = let s = c .before .before .before .args in by-across (s .b) (pair-as (s .start) (s .end)) (s .best) (s .m) (s .p) _ (c .before .enum-told3 .given .1) (c .reach .result) (c .reach .ensures)
+returns-4 c = let s = c .before .before .before .args in by-across (s .b) (pair-as (s .start) (s .first) (s .end) (s .last)) (s .best) (s .m) (s .p) _ (c .before .enum-told3 .given .1) (c .reach .result) (c .reach .ensures)
 
 pub settle-spec : {M : Type 1} → statement M
 settle-spec =
