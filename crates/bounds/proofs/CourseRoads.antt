@@ -5,7 +5,7 @@ use mathlib.Core.Bool.{Bool, true, false}
 use mathlib.Core.List.{List, _++_, map}
 use lib.Ieee.{Float}
 use Rattle.model.specs.declared.Road.{Road}
-use Rattle.model.specs.declared.Candidate.{Candidate}
+use Rattle.model.specs.Candidates.{Candidate}
 use Rattle.model.specs.Lists.{In}
 use Rattle.model.specs.Sheet.{Sheet}
 use Rattle.model.specs.View.{Leg, view}

@@ -11,12 +11,11 @@ use lib.ListN.{length, length-map}
 use lib.Ieee.{Float}
 use Rattle.model.specs.declared.Road.{Road}
 use Rattle.model.specs.declared.Row.{Row}
-use Rattle.model.specs.declared.Candidate.{Candidate}
 use Rattle.model.specs.declared.Limits.{Limits}
 use Rattle.model.specs.Lists.{In, last, maybe}
 use Rattle.model.specs.Sheet.{Stop, Sheet, road-at, leaving-roads}
 use Rattle.model.specs.View.{Leg, allows, spot-of, place-of, leg-of, leg-stops, limits-of, view}
-use Rattle.model.specs.Candidates.{fraction, candidate-of, find-candidates}
+use Rattle.model.specs.Candidates.{Candidate, fraction, candidate-of, find-candidates}
 use Rattle.model.specs.Search.{Query, Found, found, none-found, full, run, search-within, bounded-astar}
 use Rattle.model.specs.Legs.{Coverage, Route, Pair, fits-alone, route-alone, length-over, route-over, find-best-path}
 use Rattle.model.specs.Decode.{query-of, seek-of, same-number, append, Course, outcome, matched}

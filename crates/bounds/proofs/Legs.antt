@@ -5,13 +5,13 @@ use mathlib.Core.List.{List, [], _∷_, List·Memᴰ·tail}
 use lib.Dec.{T}
 use lib.Ieee.{Float}
 use Rattle.model.specs.declared.Road.{Road}
-use Rattle.model.specs.declared.Candidate.{Candidate}
+use Rattle.model.specs.Candidates.{Candidate}
 use Rattle.model.specs.declared.Limits.{Limits}
 use Rattle.model.specs.Numbers.{_<ᶠ_, _≤ᶠ_, f0}
 use Rattle.model.specs.Lists.{In, when, sort}
 use Rattle.model.specs.View.{allows}
 use Rattle.model.specs.Search.{Found, found, none-found, full}
-use Rattle.model.specs.Legs.{Route, Scored, Pair, same-road, score-of, best-score, improve, first-or-better, length-alone, fits-alone, route-alone, on-one-road, leg-pairs, close, take-close, try-same-edge-solution, length-over, fits-over, route-over, over, Sought, best, no-path, heap-full, sought, Asked, enough, nothing, alone, across, middle-max, asked, Seek, middle-of, Turn, ends, goes-on, reached, settled, try-pair, next-pair, try-pairs, by-sum, else-pairs, find-best-path}
+use Rattle.model.specs.Legs.{Route, Scored, Pair, same-road, score-of, best-score, improve, first-or-better, length-alone, fits-alone, route-alone, on-one-road, leg-pairs, close, take-close, try-same-edge-solution, length-over, fits-over, route-over, over, Sought, best, no-path, heap-full, sought, Asked, nothing, alone, across, middle-max, asked, Seek, middle-of, Turn, ends, goes-on, reached, settled, try-pair, end-or-try, next-pair, try-pairs, by-sum, else-pairs, find-best-path}
 use Rattle.model.proofs.Members.{here, either, in-sort, fold-holds}
 use Rattle.bounds.proofs.Sources.{in-leg-pairs}
 
@@ -32,7 +32,6 @@ module _ (P : Route → Type 0) where
   Turns (goes-on o) = Holds o
 
   abbrev Asks : Asked → Type 0
-  Asks enough = Unit {0}
   Asks nothing = Unit {0}
   Asks (alone o) = Holds o
   Asks (across bound) = Unit {0}
@@ -85,13 +84,12 @@ module _ (P : Route → Type 0) (F : Found → Type 0) (b : Limits) (seek : Seek
   unfolding take-close
   close-holds p g o h = either (Holds P) (close b p) (first-holds P o (on-one-road b p) h (alone-holds p g)) h
 
-  asked-holds : (p : Pair) → Gives p → (least : Float) → Asks P (asked b least p)
+  asked-holds : (p : Pair) → Gives p → Asks P (asked b p)
   unfolding asked
-  asked-holds p g least =
-      either (Asks P) (least ≤ᶠ p .sum) tt
-      (either (Asks P) (not (allows (b .class) (p .start .road) && allows (b .class) (p .end .road))) tt
+  asked-holds p g =
+      either (Asks P) (not (allows (b .class) (p .start .road) && allows (b .class) (p .end .road))) tt
       (either (Asks P) (same-road p) (alone-holds p g)
-      (either (Asks P) (middle-max b p ≤ᶠ f0) tt tt)))
+      (either (Asks P) (middle-max b p ≤ᶠ f0) tt tt))
 
   reached-holds : (p : Pair) → Gives p → (o : Option Scored) → Holds P o → (f : Found) → F f → Turns P (reached b p o f)
   unfolding reached
@@ -101,21 +99,25 @@ module _ (P : Route → Type 0) (F : Found → Type 0) (b : Limits) (seek : Seek
 
   settled-holds : (p : Pair) → Gives p → (o : Option Scored) → Holds P o → (a : Asked) → Asks P a → Turns P (settled b p o a (middle-of seek p a))
   unfolding settled middle-of
-  settled-holds p g o h enough k = sought-holds P o h
   settled-holds p g o h nothing k = h
   settled-holds p g o h (alone s) k = improve-holds P o s h k
   settled-holds p g o h (across bound) k = reached-holds p g o h (seek (p .start .road .target) (p .end .road .source) bound) (g .asks bound)
 
   pair-holds : (p : Pair) → Gives p → (o : Option Scored) → Holds P o → Turns P (try-pair b seek o p)
   unfolding try-pair
-  pair-holds p g o h = settled-holds p g o h (asked b (best-score o) p) (asked-holds p g (best-score o))
+  pair-holds p g o h = settled-holds p g o h (asked b p) (asked-holds p g)
+
+  turn-holds : (stop : Bool) (p : Pair) → Gives p → (o : Option Scored) → Holds P o → Turns P (end-or-try stop b seek o p)
+  unfolding end-or-try
+  turn-holds true p g o h = sought-holds P o h
+  turn-holds false p g o h = pair-holds p g o h
 
   -- ---- all pairs
 
   pairs-hold : (ps : List Pair) → ((p : Pair) → In p ps → Gives p) → (o : Option Scored) → Holds P o → Finds P (try-pairs b seek ps o)
   unfolding try-pairs
   pairs-hold [] g o h = sought-holds P o h
-  pairs-hold (p ∷ ps) g o h = next-holds P (try-pair b seek o p) (try-pairs b seek ps) (pair-holds p (g p here) o h) (pairs-hold ps (λ q m. g q (List·Memᴰ·tail m)))
+  pairs-hold (p ∷ ps) g o h = next-holds P (end-or-try (best-score o ≤ᶠ p .sum) b seek o p) (try-pairs b seek ps) (turn-holds (best-score o ≤ᶠ p .sum) p (g p here) o h) (pairs-hold ps (λ q m. g q (List·Memᴰ·tail m)))
 
   same-edge-holds : (ps : List Pair) → ((p : Pair) → In p ps → Gives p) → Holds P (try-same-edge-solution b ps)
   unfolding try-same-edge-solution

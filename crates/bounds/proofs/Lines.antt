@@ -6,12 +6,11 @@ use mathlib.Core.List.{List, [], _∷_, map, List·Memᴰ·tail}
 use native.Mathlib.Omega.{arith}
 use lib.Dec.{eqb, ltb}
 use lib.ListN.{length}
-use Rattle.model.specs.declared.Candidate.{Candidate}
 use Rattle.model.specs.Numbers.{_<ᶠ_, _≤ᶠ_}
 use Rattle.model.specs.Lists.{In, maybe, fold}
 use Rattle.model.specs.Layout.{point-along-line}
 use Rattle.model.specs.View.{Leg, View}
-use Rattle.model.specs.Candidates.{find-candidates, closest-point}
+use Rattle.model.specs.Candidates.{Candidate, find-candidates, closest-point}
 use Rattle.model.specs.Search.{Searcher}
 use Rattle.model.specs.Legs.{Coverage, Route, Sought, best, no-path, heap-full, find-best-path}
 use Rattle.model.specs.Decode.{seek-of, Course, no-course, extended, course-of, greater, primary-edge, Outcome, refused, matched, with-primary, after-leg, decode-line, decode-point-along-line, decode-legs, first-empty, require-close-candidate, decode-points, outcome}

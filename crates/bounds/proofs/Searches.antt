@@ -8,7 +8,6 @@ use lib.Dec.{eqb, ltb}
 use lib.ListN.{length}
 use lib.Ieee.{Float}
 use Rattle.model.specs.declared.Road.{Road}
-use Rattle.model.specs.declared.Candidate.{Candidate}
 use Rattle.model.specs.declared.Limits.{Limits}
 use Rattle.model.specs.declared.Judged.{Judged}
 use Rattle.model.specs.declared.Judged.the-variants.{Fine, Refused}
@@ -18,9 +17,9 @@ use Rattle.model.specs.Layout.{point-along-line, counts-of}
 use Rattle.model.specs.Judge.{judged}
 use Rattle.model.specs.Sheet.{Stop, Sheet, leaving-roads, sheet-of}
 use Rattle.model.specs.View.{Leg, is-slip, allows, limits-of, place-of, leg-of, leg-stops, view}
-use Rattle.model.specs.Candidates.{find-candidates, closest-point}
+use Rattle.model.specs.Candidates.{Candidate, find-candidates, closest-point}
 use Rattle.model.specs.Search.{Query, Searcher, Found, found, penalty, search-within, bounded-astar}
-use Rattle.model.specs.Legs.{Scored, Pair, Asked, enough, nothing, alone, across, Seek, Sought, best-score, leg-pairs, try-same-edge-solution, asked, middle-of, settled, try-pair, next-pair, try-pairs, by-sum, else-pairs, find-best-path}
+use Rattle.model.specs.Legs.{Scored, Pair, Asked, nothing, alone, across, Seek, Sought, best-score, leg-pairs, try-same-edge-solution, asked, middle-of, settled, try-pair, end-or-try, next-pair, try-pairs, by-sum, else-pairs, find-best-path}
 use Rattle.model.specs.Decode.{query-of, seek-of, Course, no-course, Outcome, refused, with-primary, extended, course-of, after-leg, decode-line, decode-point-along-line, decode-legs, first-empty, require-close-candidate, decode-points, outcome}
 use Rattle.model.specs.Call.{Areas, Lists, roomy, answered, untouched, decode-by, decode-sheet, after-judging, decode}
 use Rattle.model.proofs.Members.{here, either, in-keep, in-sort}
@@ -55,18 +54,21 @@ leg-ways t wf p goal bound = record {
 module _ (b : Limits) (f g : Seek) where
   middle-same : (p : Pair) → ((bound : Float) → f (p .start .road .target) (p .end .road .source) bound ≡ g (p .start .road .target) (p .end .road .source) bound) → (a : Asked) → middle-of f p a ≡ middle-of g p a
   unfolding middle-of
-  middle-same p h enough = refl
   middle-same p h nothing = refl
   middle-same p h (alone s) = refl
   middle-same p h (across bound) = h bound
 
+  turn-same : (stop : Bool) (p : Pair) → ((bound : Float) → f (p .start .road .target) (p .end .road .source) bound ≡ g (p .start .road .target) (p .end .road .source) bound)
+      → (so-far : Option Scored) → end-or-try stop b f so-far p ≡ end-or-try stop b g so-far p
+  unfolding end-or-try try-pair
+  turn-same true p h so-far = refl
+  turn-same false p h so-far = let a = asked b p in ap (settled b p so-far a) (middle-same p h a)
+
   pairs-same : (ps : List Pair) → ((p : Pair) → In p ps → (bound : Float) → f (p .start .road .target) (p .end .road .source) bound ≡ g (p .start .road .target) (p .end .road .source) bound)
       → (so-far : Option Scored) → try-pairs b f ps so-far ≡ try-pairs b g ps so-far
-  unfolding try-pairs try-pair
+  unfolding try-pairs
   pairs-same [] h so-far = refl
-  pairs-same (p ∷ ps) h so-far =
-      let a = asked b (best-score so-far) p in
-      λ i. next-pair (settled b p so-far a (middle-same p (h p here) a i)) (λ x. pairs-same ps (λ q m. h q (List·Memᴰ·tail m)) x i)
+  pairs-same (p ∷ ps) h so-far = λ i. next-pair (turn-same (best-score so-far ≤ᶠ p .sum) p (h p here) so-far i) (λ x. pairs-same ps (λ q m. h q (List·Memᴰ·tail m)) x i)
 
   pub best-path-same : (xs ys : List Candidate)
       → ((x y : Candidate) → In x xs → In y ys → (bound : Float) → f (x .road .target) (y .road .source) bound ≡ g (x .road .target) (y .road .source) bound)

@@ -9,11 +9,10 @@ use lib.Dec.{T}
 use lib.ListN.{take}
 use Rattle.model.specs.declared.Settings.{Settings}
 use Rattle.model.specs.declared.Road.{Road}
-use Rattle.model.specs.declared.Candidate.{Candidate}
 use Rattle.model.specs.Lists.{In, when, collect, sort}
 use Rattle.model.specs.Sheet.{Stop, Sheet, road-at, no-road, list-at, leaving-roads}
 use Rattle.model.specs.View.{Spot, Place, spot-of, place-of}
-use Rattle.model.specs.Candidates.{candidate-of, passes, candidate, better, find-candidates}
+use Rattle.model.specs.Candidates.{Candidate, candidate-of, passes, candidate, better, find-candidates}
 use Rattle.model.specs.Legs.{Pair, pair, pairs, leg-pairs}
 use Rattle.model.proofs.Members.{here, in-getD, in-take, in-sort, in-collect}
 use Rattle.bounds.specs.Formed.{Formed}

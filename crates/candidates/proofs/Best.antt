@@ -15,12 +15,11 @@ use borrow.Author.Tests.{lt-ltb, le-ltb}
 use lib.Seq.{getD-take, length-take-le, take-all, take-take, take-append-le}
 use Rattle.model.specs.declared.Counts.{Counts}
 use Rattle.model.specs.declared.Settings.{Settings}
-use Rattle.model.specs.declared.Candidate.{Candidate}
 use Rattle.model.specs.declared.Road.{Road}
 use Rattle.model.specs.Lists.{In, insert}
 use Rattle.model.specs.Judge.{WellFormed, row-count, rows-before, row-road}
 use Rattle.model.specs.Sheet.{Sheet, sheet-of}
-use Rattle.model.specs.Candidates.{candidate-of, candidate, better, passes}
+use Rattle.model.specs.Candidates.{Candidate, candidate-of, candidate, better, passes}
 use Rattle.model.proofs.Members.{here, getD-map, map-take, in-getD, in-take, Every, every-none}
 use Rattle.model.proofs.RowSums.{rows-within}
 use Rattle.bounds.proofs.Rank.{rank-le}

@@ -9,12 +9,11 @@ use lib.Dec.{T}
 use lib.Ieee.{Float, lt, eq, le}
 use borrow.Author.Tests.{ltb-true, ltb-false, eqb-true, eq-eqb}
 use Rattle.model.specs.declared.Counts.{Counts}
-use Rattle.model.specs.declared.Candidate.{Candidate}
 use Rattle.model.specs.Numbers.{fmin, infinity}
 use Rattle.model.specs.Lists.{insert, fold}
 use Rattle.model.specs.Judge.{WellFormed, row-count, rows-before}
 use Rattle.model.specs.Sheet.{sheet-of}
-use Rattle.model.specs.Candidates.{candidate-of, candidate, better, nearest}
+use Rattle.model.specs.Candidates.{Candidate, candidate-of, candidate, better, nearest}
 use Rattle.model.proofs.Members.{here, Every, every-none}
 use Rattle.model.proofs.RowSums.{rows-within}
 use Rattle.bounds.specs.Amounts.{Finite, Amount, amount}

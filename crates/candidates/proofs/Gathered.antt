@@ -13,13 +13,12 @@ use Rattle.model.specs.declared.Settings.{Settings}
 use Rattle.model.specs.declared.Point.{Point}
 use Rattle.model.specs.declared.Row.{Row}
 use Rattle.model.specs.declared.Road.{Road}
-use Rattle.model.specs.declared.Candidate.{Candidate}
 use Rattle.model.specs.Lists.{In, insert, sort, fold, collect, cons-some, when, tab}
 use Rattle.model.specs.Layout.{points-bytes, rows-bytes}
 use Rattle.model.specs.Judge.{WellFormed, row-count, rows-before}
 use Rattle.model.specs.Sheet.{point-of, row-of, road-at, sheet-of}
 use Rattle.model.specs.View.{spot-of}
-use Rattle.model.specs.Candidates.{candidate-of, passes, candidate, better, find-candidates}
+use Rattle.model.specs.Candidates.{Candidate, candidate-of, passes, candidate, better, find-candidates}
 use Rattle.model.proofs.Members.{in-take, Every, every-none}
 use Rattle.model.proofs.RowSums.{rows-within}
 use Rattle.sheet.proofs.Parts.{map-tab}

@@ -13,12 +13,11 @@ use lib.Ieee.{Float, lt, le}
 use lib.Seq.{take-all}
 use Rattle.model.specs.declared.Counts.{Counts}
 use Rattle.model.specs.declared.Settings.{Settings}
-use Rattle.model.specs.declared.Candidate.{Candidate}
 use Rattle.model.specs.Numbers.{infinity}
 use Rattle.model.specs.Lists.{In, maybe, tab}
 use Rattle.model.specs.Judge.{WellFormed, row-count, rows-before}
 use Rattle.model.specs.Sheet.{sheet-of}
-use Rattle.model.specs.Candidates.{nearest, Closest, closest, closest-point}
+use Rattle.model.specs.Candidates.{Candidate, nearest, Closest, closest, closest-point}
 use Rattle.model.specs.Decode.{first-empty}
 use Rattle.model.proofs.Members.{here, in-take, in-tab, length-tab, Every, every-cons, every-none}
 use Rattle.model.proofs.RowSums.{before-none, before-next}

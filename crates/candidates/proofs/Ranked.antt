@@ -7,8 +7,7 @@ use native.Mathlib.Omega.{arith}
 use lib.Dec.{T, ltb, eqb}
 use lib.Ieee.{Float, up, down, lt, eq, le}
 use borrow.Author.Tests.{ltb-true, ltb-false, eqb-true, eqb-false, lt-ltb, le-ltb, eq-eqb, ne-eqb}
-use Rattle.model.specs.declared.Candidate.{Candidate}
-use Rattle.model.specs.Candidates.{better}
+use Rattle.model.specs.Candidates.{Candidate, better}
 use Rattle.bounds.specs.Amounts.{Amount}
 use Rattle.bounds.proofs.Rank.{rank, Kind, endless, ended, to-kind, le-rank, rank-le, nlt-rank, lt-rank}
 use Rattle.candidates.proofs.Sorted.{Orders}

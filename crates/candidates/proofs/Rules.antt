@@ -11,14 +11,13 @@ use lib.ListN.{length, take, getD}
 use lib.Seq.{take-all, take-take}
 use lib.Ieee.{Float, lt, le}
 use Rattle.model.specs.declared.Counts.{Counts}
-use Rattle.model.specs.declared.Candidate.{Candidate}
 use Rattle.model.specs.Numbers.{fmin, infinity}
 use Rattle.model.specs.Lists.{fold, maybe, tab}
 use Rattle.model.specs.Layout.{points-bytes, rows-bytes}
 use Rattle.model.specs.Sheet.{Stop, Sheet, stop-of, sheet-of}
 use Rattle.model.specs.View.{View, view, place-of}
 use Rattle.model.specs.Search.{Searcher}
-use Rattle.model.specs.Candidates.{find-candidates, nearest, Closest, closest, closest-point}
+use Rattle.model.specs.Candidates.{Candidate, find-candidates, nearest, Closest, closest, closest-point}
 use Rattle.model.specs.Decode.{refused, Outcome, first-empty, require-close-candidate, decode-legs, decode-points}
 use Rattle.model.proofs.Members.{length-tab, map-take}
 use Rattle.model.proofs.Parsed.{stop-is}

@@ -8,12 +8,12 @@ use lib.Dec.{T}
 use lib.Ieee.{nan, le}
 use Rattle.model.specs.declared.Counts.{Counts}
 use Rattle.model.specs.declared.Road.{Road}
-use Rattle.model.specs.declared.Candidate.{Candidate}
 use Rattle.model.specs.Numbers.{f0}
 use Rattle.model.specs.Sheet.{Stop, Sheet, road-at}
 use Rattle.model.specs.Lists.{sort, collect}
 use Rattle.model.specs.View.{spot-of, place-of}
-use Rattle.model.specs.Candidates.{candidate, better, find-candidates}
+use Rattle.model.specs.Candidates.{Candidate, candidate, better, find-candidates}
+use Rattle.model.specs.Legs.{most-tried}
 use Rattle.bounds.specs.Amounts.{Amount}
 use Rattle.candidates.specs.declared.candidate.Candidate as code
 use Rattle.candidates.specs.declared.find.Candidates.{Candidates}
@@ -41,23 +41,23 @@ pub record OnSheet (t : Sheet) (c : Counts) (x : Candidate) : Type 0 where
   pub frc : x .road .frc ≤ 7
   pub fow : x .road .fow ≤ 7
 
--- ---- the code's record: the road by its number alone
+-- ---- the code's candidate and the definition's: one has the road's number, the other its record
 
 abbrev pub by-number : Candidate → code.Candidate
-by-number x = record { road = x .road .number; distance = x .distance; «bearing_diff» = x .«bearing_diff»; «frc_diff» = x .«frc_diff»; «fow_score» = x .«fow_score»; score = x .score; fraction = x .fraction }
+by-number x = record { road = x .road .number; distance = x .distance; «bearing_diff» = x .bearing-diff; «frc_diff» = x .frc-diff; «fow_score» = x .fow-score; score = x .score; fraction = x .fraction }
 
 -- the candidate that it stands for, on the road r
 abbrev pub on : Road → code.Candidate → Candidate
-on r x = record { road = r; distance = x .distance; «bearing_diff» = x .«bearing_diff»; «frc_diff» = x .«frc_diff»; «fow_score» = x .«fow_score»; score = x .score; fraction = x .fraction }
+on r x = record { road = r; distance = x .distance; bearing-diff = x .«bearing_diff»; frc-diff = x .«frc_diff»; fow-score = x .«fow_score»; score = x .score; fraction = x .fraction }
 
 -- what stands in an array past its end
 abbrev pub no-candidate : Candidate
 no-candidate = record {
   road = record { number = 0; id = 0; metres = nan; source = 0; target = 0; frc = 0; fow = 0; access = false };
   distance = nan;
-  «bearing_diff» = nan;
-  «frc_diff» = 0;
-  «fow_score» = nan;
+  bearing-diff = nan;
+  frc-diff = 0;
+  fow-score = nan;
   score = nan;
   fraction = nan;
 }
@@ -69,10 +69,10 @@ no-item = by-number no-candidate
 
 -- how many of n
 abbrev pub tried : ℕ → ℕ
-tried n = min 10 n
+tried n = min most-tried n
 
 abbrev pub tried-at : Sheet → ℕ → List Candidate
-tried-at t i = take 10 (candidates-at t i)
+tried-at t i = take most-tried (candidates-at t i)
 
 -- ---- a list of them by value
 
@@ -89,7 +89,7 @@ item-at xs k = getD (xs .items) k no-item
 
 -- at most ten, on roads of the sheet, with scores that are amounts and never fall
 pub record Ready (c : Counts) (xs : Candidates) : Type 0 where
-  pub few : xs .count ≤ 10
+  pub few : xs .count ≤ most-tried
   pub room : xs .count ≤ length (xs .items)
   pub named : (k : ℕ) → k < xs .count → item-at xs k .road < c .e
   pub amounts : (k : ℕ) → k < xs .count → Amount (item-at xs k .score)

@@ -5,11 +5,10 @@ use mathlib.Core.Bool.{true}
 use mathlib.Core.List.{List, map}
 use lib.ListN.{length, take}
 use lib.Ieee.{Float, nan, eq}
-use Rattle.model.specs.declared.Candidate.{Candidate}
 use Rattle.model.specs.Numbers.{fmin, infinity}
 use Rattle.model.specs.Lists.{fold}
 use Rattle.model.specs.Sheet.{Sheet}
-use Rattle.model.specs.Candidates.{nearest}
+use Rattle.model.specs.Candidates.{Candidate, nearest}
 use Rattle.bounds.specs.Amounts.{Amount}
 use Rattle.candidates.specs.declared.closest.Seen.{Seen}
 use Rattle.candidates.specs.declared.closest.Away.{Away}

@@ -2,12 +2,11 @@
 use mathlib.Core.Bool.{cond}
 use mathlib.Core.List.{List, [], _∷_, map}
 use lib.Ieee.{Float}
-use Rattle.model.specs.declared.Candidate.{Candidate}
 use Rattle.model.specs.Numbers.{_≤ᶠ_}
 use Rattle.model.specs.Lists.{maybe}
 use Rattle.model.specs.Sheet.{Sheet}
 use Rattle.model.specs.View.{view}
-use Rattle.model.specs.Candidates.{find-candidates, closest-point}
+use Rattle.model.specs.Candidates.{Candidate, find-candidates, closest-point}
 use Rattle.model.specs.Decode.{Outcome, refused, first-empty}
 use Rattle.candidates.specs.declared.closest.Points.{Points}
 use Rattle.candidates.specs.declared.closest.Points.the-variants.{Fine, NoCandidate}

@@ -7,7 +7,6 @@ use mathlib.Core.List.{List, [], _∷_, map}
 use native.Mathlib.Omega.{arith}
 use lib.Dec.{leb, ltb, eqb}
 use lib.ListN.{length}
-use Rattle.model.specs.declared.Candidate.{Candidate}
 use Rattle.model.specs.declared.Judged.{Judged}
 use Rattle.model.specs.declared.Judged.the-variants.{Fine, Refused}
 use Rattle.model.specs.declared.Verdict.{Verdict}
@@ -19,7 +18,7 @@ use Rattle.model.specs.Judge.{counts-good, offsets-good, fields-good, lists-goo
 use Rattle.model.specs.Sheet.{Sheet, sheet-of}
 use Rattle.model.specs.View.{Leg, View, view}
 use Rattle.model.specs.Search.{Searcher, bounded-astar}
-use Rattle.model.specs.Candidates.{find-candidates, closest-point}
+use Rattle.model.specs.Candidates.{Candidate, find-candidates, closest-point}
 use Rattle.model.specs.Legs.{Coverage, Route, Sought, best, no-path, heap-full}
 use Rattle.model.specs.Decode.{Course, Outcome, no-course, extended, course-of, primary-edge, with-primary, after-leg, decode-line, decode-point-along-line, decode-legs, first-empty, require-close-candidate, decode-points, outcome}
 use Rattle.model.specs.Decode as outcomes

@@ -7,7 +7,7 @@ use mathlib.Core.List.{List, []}
 use native.Mathlib.Omega.{arith}
 use Rattle.model.specs.declared.Road.{Road}
 use Rattle.model.specs.declared.Limits.{Limits}
-use Rattle.model.specs.declared.Candidate.{Candidate}
+use Rattle.model.specs.Candidates.{Candidate}
 use Rattle.model.specs.Lists.{sort}
 use Rattle.model.specs.Legs.{Scored, Seek, leg-pairs, by-sum, try-same-edge-solution, try-pairs, else-pairs, find-best-path, sought, next-pair}
 use Rattle.model.specs.Legs as legs
@@ -41,10 +41,6 @@ module _ (st : State) (roads : ℕ → Road) (area : List ℕ) where
   pub ends-on : st .phase ≡ H.On → sought (best-of roads (st .best) area) ≡ end-of roads st area
   unfolding end-of turn-of next-pair
   ends-on e = rw e
-
-  pub ends-ended : st .phase ≡ H.Ended → sought (best-of roads (st .best) area) ≡ end-of roads st area
-  unfolding end-of turn-of next-pair
-  ends-ended e = rw e
 
   pub ends-full : st .phase ≡ H.Full → sought-of roads S.HeapFull area ≡ end-of roads st area
   unfolding end-of turn-of next-pair sought-of

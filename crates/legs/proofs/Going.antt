@@ -1,7 +1,7 @@
 -- The loop over the pairs: what is left decides, as the whole list does from the start.
 use Prim.Native.Nat.{ℕ, suc, _-_, _≤_, _<_}
 use mathlib.Core.Path.{_≡_, refl, sym, ap, _∙_}
-use mathlib.Core.Bool.{true}
+use mathlib.Core.Bool.{Bool, true, false}
 use mathlib.Core.Option.{Option, none, Option·none-ne-some}
 use mathlib.Core.List.{List, _∷_}
 use native.Mathlib.Numerals.{add-one}
@@ -11,7 +11,7 @@ use lib.Seq.{drop-cons}
 use Rattle.model.specs.declared.Road.{Road}
 use Rattle.model.specs.declared.Limits.{Limits}
 use Rattle.model.specs.Numbers.{_≤ᶠ_}
-use Rattle.model.specs.Legs.{Pair, Scored, Seek, Turn, best-score, asked, settled, sought, next-pair, try-pair, try-pairs}
+use Rattle.model.specs.Legs.{Pair, Scored, Seek, Turn, best-score, sought, next-pair, try-pair, end-or-try, try-pairs}
 use Rattle.rules.specs.declared.Best.{Best}
 use Rattle.rules.specs.Code.{best-of}
 use Rattle.rules.proofs.BestLaws.{best-some}
@@ -43,11 +43,13 @@ module _ (roads : ℕ → Road) (b : Limits) (seek : Seek) (ps : List Pair) wher
     pub nearer : (ph : Phase) → n - place-after ph t n < n - t
     unfolding place-after
     nearer H.On = omega arith
-    nearer H.Ended = omega arith
     nearer H.Full = omega arith
 
     module _ (p d : Pair) (is : p ≡ getD ps t d) where
-      one-on : next-pair (try-pair b seek (best-of roads (st .best) area) p) (try-pairs b seek (drop (suc t) ps)) ≡ try-pairs b seek ps none
+      abbrev stop : Bool
+      stop = best-score (best-of roads (st .best) area) ≤ᶠ p .sum
+
+      one-on : next-pair (end-or-try stop b seek (best-of roads (st .best) area) p) (try-pairs b seek (drop (suc t) ps)) ≡ try-pairs b seek ps none
       unfolding try-pairs next-pair turn-of
       one-on =
           let split : drop t ps ≡ p ∷ drop (suc t) ps = drop-cons ps t d (omega arith) ∙ rw is in
@@ -55,39 +57,37 @@ module _ (roads : ℕ → Road) (b : Limits) (seek : Seek) (ps : List Pair) wher
           ∙ (rw (good .running h) at (good .means))
 
       -- a pair whose sum reaches the best score ends them
-      pub good-enough : best-score (best-of roads (st .best) area) ≤ᶠ p .sum ≡ true → end-of roads st area ≡ try-pairs b seek ps none
-      unfolding end-of next-pair turn-of try-pair asked settled
+      pub good-enough : stop ≡ true → end-of roads st area ≡ try-pairs b seek ps none
+      unfolding end-of next-pair turn-of end-or-try
       good-enough e =
           ap (λ (ph : Phase). next-pair (turn-of ph (best-of roads (st .best) area)) sought) (good .running h)
-          ∙ sym (rw (e, asked, settled))
+          ∙ ap (λ (w : Bool). next-pair (end-or-try w b seek (best-of roads (st .best) area) p) (try-pairs b seek (drop (suc t) ps))) (sym e)
           ∙ one-on
 
       -- after the pair, by how it goes on
       after : (ph : Phase) (x : Option Scored) → next-pair (turn-of ph x) (try-pairs b seek (drop (suc t) ps)) ≡ next-pair (turn-of ph x) (try-pairs b seek (drop (place-after ph t n) ps))
       unfolding next-pair turn-of place-after
       after H.On x = rw (add-one t)
-      after H.Ended x = refl
       after H.Full x = refl
 
       ranged : (ph : Phase) → place-after ph t n ≤ n
       unfolding place-after
       ranged H.On = omega arith
-      ranged H.Ended = omega arith
       ranged H.Full = omega arith
 
       goes : (ph : Phase) → place-after ph t n < n → ph ≡ H.On
       unfolding place-after
       goes H.On g = refl
-      goes H.Ended g = absurd (omega arith)
       goes H.Full g = absurd (omega arith)
 
-      pub good-turn : (r : State) (next : List ℕ) → turn-of (r .phase) (best-of roads (r .best) next) ≡ try-pair b seek (best-of roads (st .best) area) p → Fits nodes e (r .best) next
+      pub good-turn : stop ≡ false → (r : State) (next : List ℕ) → turn-of (r .phase) (best-of roads (r .best) next) ≡ try-pair b seek (best-of roads (st .best) area) p → Fits nodes e (r .best) next
           → Good nodes e n r next (place-after (r .phase) t n)
-      good-turn r next turned fits = record {
+      unfolding end-or-try
+      good-turn e r next turned fits = record {
         in-range = ranged (r .phase);
         running = goes (r .phase);
         fits = fits;
-        means = sym (after (r .phase) (best-of roads (r .best) next)) ∙ ap (λ (w : Turn). next-pair w (try-pairs b seek (drop (suc t) ps))) turned ∙ one-on;
+        means = sym (after (r .phase) (best-of roads (r .best) next)) ∙ ap (λ (w : Turn). next-pair w (try-pairs b seek (drop (suc t) ps))) (turned ∙ ap (λ (w : Bool). end-or-try w b seek (best-of roads (st .best) area) p) (sym e)) ∙ one-on;
       }
 
   pub good-end : (nodes e n : ℕ) → length ps ≡ n → (st : State) (area : List ℕ) (t : ℕ) → Good nodes e n st area t → n ≤ t → end-of roads st area ≡ try-pairs b seek ps none

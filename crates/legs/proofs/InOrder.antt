@@ -9,7 +9,7 @@ use lib.ListN.{length, take, drop, getD, replicate, set, length-set, length-drop
 use lib.Seq.{drop-cons, take-all, getD-set-same, getD-set-other}
 use lib.Ieee.{Float, nan}
 use Rattle.model.specs.declared.Counts.{Counts}
-use Rattle.model.specs.declared.Candidate.{Candidate}
+use Rattle.model.specs.Candidates.{Candidate}
 use Rattle.model.specs.Lists.{sort}
 use Rattle.model.specs.Sheet.{Sheet}
 use Rattle.model.specs.Legs.{Pair, pair, pairs, leg-pairs, by-sum}
@@ -118,5 +118,4 @@ module _ (s : Sheet) (c : Counts) (starts ends : Candidates) (la : Ready c start
       pub heads-next : (ph : Phase) → Heads s starts ends (starts .count * ends .count) (place-after ph t (starts .count * ends .count)) next
       unfolding place-after
       heads-next H.On = record { long = long; rest = λ g. let e = split (pair x y) in rw (add-one t) (cc) }
-      heads-next H.Ended = record { long = long; rest = λ g. absurd (omega arith) }
       heads-next H.Full = record { long = long; rest = λ g. absurd (omega arith) }

@@ -56,7 +56,6 @@ sought-of roads S.HeapFull area = heap-full
 -- the place of the next pair among n: past the last one where the leg is decided
 unfoldable pub place-after : Phase → ℕ → ℕ → ℕ
 place-after H.On t n = t + 1
-place-after H.Ended t n = n
 place-after H.Full t n = n
 
 -- ---- what the areas hold

@@ -53,7 +53,6 @@ fn ended(st: State) -> Sought
     let best = st.best;
     match phase {
         Phase::On => best_or_none(best),
-        Phase::Ended => best_or_none(best),
         Phase::Full => Sought::HeapFull,
     }
 }

@@ -55,7 +55,7 @@ pub fn try_pair(
     let to = end.road;
     let first = roads::road(s, c, from);
     let last = roads::road(s, c, to);
-    let p = turns::plan(b, best, start, first, end, last);
+    let p = turns::plan(b, start, first, end, last);
     let a = turns::ask(p);
     let m = middle::middle(
         s,
@@ -87,7 +87,6 @@ fn next_place(phase: Phase, t: usize, n: usize) -> usize
 {
     match phase {
         Phase::On => t + 1,
-        Phase::Ended => n,
         Phase::Full => n,
     }
 }

@@ -9,7 +9,7 @@ use lib.ListN.{getD, take, length}
 use lib.Ieee.{Float, eq}
 use Rattle.model.specs.declared.Settings.{Settings}
 use Rattle.model.specs.declared.Point.{Point}
-use Rattle.model.specs.declared.Candidate.{Candidate}
+use Rattle.model.specs.declared.Road.{Road}
 use Rattle.model.specs.Numbers.{_⊕_, _⊖_, _⊗_, _⊘_, _<ᶠ_, fmin, fabs, nat, f0, half, three-quarters, f1, f180, f360, infinity}
 use Rattle.model.specs.Lists.{any, when, collect, sort, fold}
 use Rattle.model.specs.View.{Spot, Place, is-slip}
@@ -64,6 +64,17 @@ substitution-score wanted actual = getD (getD fow-score-matrix wanted []) actual
 
 -- ---- find_candidates
 
+-- A candidate, with its road's whole record where the scope's record has the number: a leg then looks nothing up, and equal views give equal legs.
+-- The code's struct has the number; candidates/specs/Found says how the two belong together.
+pub record Candidate : Type 0 where
+  pub road : Road
+  pub distance : Float
+  pub bearing-diff : Float
+  pub frc-diff : ℕ
+  pub fow-score : Float
+  pub score : Float
+  pub fraction : Float
+
 -- a zero maximum gives penalty 0
 unfoldable pub normalize : Float → Float → Float
 normalize value max = cond (f0 <ᶠ max) (value ⊘ max) f0
@@ -84,9 +95,9 @@ candidate-of c p s =
     record {
       road = s .road;
       distance = s .row .distance;
-      «bearing_diff» = bearing;
-      «frc_diff» = class;
-      «fow_score» = fow;
+      bearing-diff = bearing;
+      frc-diff = class;
+      fow-score = fow;
       score = compute-score c (s .row .distance) bearing class fow;
       fraction = fraction (s .row .along) (s .row .line);
     }
@@ -94,9 +105,9 @@ candidate-of c p s =
 -- A class difference above the tolerance drops the road unless it is a slip road; distance and bearing drop it only above their maxima.
 unfoldable pub passes : Settings → Candidate → Bool
 passes c x =
-    not (ltb (c .«frc_tolerance») (x .«frc_diff») && not (is-slip (x .road)))
+    not (ltb (c .«frc_tolerance») (x .frc-diff) && not (is-slip (x .road)))
     && not (c .«search_radius_m» <ᶠ x .distance)
-    && not (c .«max_bearing_diff» <ᶠ x .«bearing_diff»)
+    && not (c .«max_bearing_diff» <ᶠ x .bearing-diff)
 
 unfoldable pub candidate : Settings → Point → Spot → Option Candidate
 candidate c p s = let x = candidate-of c p s in when (passes c x) x

@@ -7,12 +7,11 @@ use lib.Dec.{eqb, ltb}
 use lib.ListN.{length}
 use lib.Ieee.{Float}
 use Rattle.model.specs.declared.Road.{Road}
-use Rattle.model.specs.declared.Candidate.{Candidate}
 use Rattle.model.specs.Numbers.{_⊕_, _<ᶠ_, _≤ᶠ_, f0}
 use Rattle.model.specs.Lists.{last, maybe, fold}
 use Rattle.model.specs.Layout.{point-along-line}
 use Rattle.model.specs.View.{Leg, View}
-use Rattle.model.specs.Candidates.{find-candidates, closest-point}
+use Rattle.model.specs.Candidates.{Candidate, find-candidates, closest-point}
 use Rattle.model.specs.Search.{Query, Searcher, found, penalty}
 use Rattle.model.specs.Legs.{Coverage, Route, Sought, best, no-path, heap-full, Seek, find-best-path}
 

@@ -6,12 +6,11 @@ use mathlib.Core.List.{List, [], _∷_}
 use lib.ListN.{getD, set, take, replicate}
 use lib.Ieee.{Float}
 use Rattle.model.specs.declared.Road.{Road}
-use Rattle.model.specs.declared.Candidate.{Candidate}
 use Rattle.model.specs.declared.Limits.{Limits}
 use Rattle.model.specs.Numbers.{bits, nat, f0, f1}
 use Rattle.model.specs.Lists.{sort}
 use Rattle.model.specs.View.{Leg, View, limits-of}
-use Rattle.model.specs.Candidates.{is-access-road, bearing-difference}
+use Rattle.model.specs.Candidates.{Candidate, is-access-road, bearing-difference}
 use Rattle.model.specs.Heap.{push, pop}
 use Rattle.model.specs.Search.{Query, Searcher, found, full, bounded-astar}
 use Rattle.model.specs.Legs.{Coverage, Pair, close, excellent, pair, by-sum}
@@ -86,9 +85,9 @@ abbrev pub candidate-on : ℕ → ℕ → ℕ → Candidate
 candidate-on number distance score = record {
   road = record { number = number; id = 700; metres = nat 100; source = 0; target = 1; frc = 3; fow = 3; access = false };
   distance = nat distance;
-  «bearing_diff» = f0;
-  «frc_diff» = 0;
-  «fow_score» = f1;
+  bearing-diff = f0;
+  frc-diff = 0;
+  fow-score = f1;
   score = nat score;
   fraction = f0;
 }

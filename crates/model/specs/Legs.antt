@@ -7,7 +7,7 @@ use lib.Dec.{eqb}
 use lib.ListN.{take}
 use lib.Ieee.{Float}
 use Rattle.model.specs.declared.Road.{Road}
-use Rattle.model.specs.declared.Candidate.{Candidate}
+use Rattle.model.specs.Candidates.{Candidate}
 use Rattle.model.specs.declared.Limits.{Limits}
 use Rattle.model.specs.Numbers.{_⊕_, _⊖_, _⊗_, _⊘_, _<ᶠ_, _≤ᶠ_, fmax, fabs, f0, f1, f3, f5, f10, min-edge-contribution, greatest-float}
 use Rattle.model.specs.Lists.{when, fold, sort}
@@ -104,12 +104,16 @@ on-one-road b p = when (fits-alone b p) record { route = route-alone p; score = 
 
 -- ---- the pairs of a leg: up to 10 × 10
 
+-- how many candidates of a point a leg tries
+abbrev pub most-tried : ℕ
+most-tried = 10
+
 unfoldable pub pairs : List Candidate → List Candidate → List Pair
 pairs [] ys = []
 pairs (x ∷ xs) ys = map (pair x) ys ++ pairs xs ys
 
 abbrev pub leg-pairs : List Candidate → List Candidate → List Pair
-leg-pairs xs ys = pairs (take 10 xs) (take 10 ys)
+leg-pairs xs ys = pairs (take most-tried xs) (take most-tried ys)
 
 -- ---- try_same_edge_solution
 
@@ -177,9 +181,8 @@ unfoldable pub sought : Option Scored → Sought
 sought none = no-path
 sought (some s) = best (s .route)
 
--- What a pair asks for: an end of the pairs, nothing, a route on one road, or a search within these metres.
+-- What a pair asks for: nothing, a route on one road, or a search within these metres.
 pub data Asked : Type 0 where
-  enough : Asked
   nothing : Asked
   alone : Option Scored → Asked
   across : Float → Asked
@@ -187,13 +190,12 @@ pub data Asked : Type 0 where
 unfoldable pub middle-max : Limits → Pair → Float
 middle-max b p = b .reach ⊖ start-part p ⊖ end-part p
 
--- The pairs end when the sum reaches the best score. A pair whose roads the leg may not use is skipped, and so is one with a bound of 0 or less.
-unfoldable pub asked : Limits → Float → Pair → Asked
-asked b least p =
-    cond (least ≤ᶠ p .sum) enough
-    (cond (not (allows (b .class) (p .start .road) && allows (b .class) (p .end .road))) nothing
+-- A pair whose roads the leg may not use is skipped, and so is one with a bound of 0 or less.
+unfoldable pub asked : Limits → Pair → Asked
+asked b p =
+    cond (not (allows (b .class) (p .start .road) && allows (b .class) (p .end .road))) nothing
     (cond (same-road p) (alone (on-one-road b p))
-    (cond (middle-max b p ≤ᶠ f0) nothing (across (middle-max b p)))))
+    (cond (middle-max b p ≤ᶠ f0) nothing (across (middle-max b p))))
 
 -- The way from a node to a node within a bound.
 abbrev pub Seek : Type 0
@@ -201,7 +203,6 @@ Seek = ℕ → ℕ → Float → Found
 
 -- the roads between the end of the start's road and the start of the end's
 unfoldable pub middle-of : Seek → Pair → Asked → Found
-middle-of seek p enough = none-found
 middle-of seek p nothing = none-found
 middle-of seek p (alone s) = none-found
 middle-of seek p (across bound) = seek (p .start .road .target) (p .end .road .source) bound
@@ -217,15 +218,19 @@ reached b p so-far full = ends heap-full
 reached b p so-far (found cost middle) = goes-on (improve so-far (over b p cost middle))
 
 unfoldable pub settled : Limits → Pair → Option Scored → Asked → Found → Turn
-settled b p so-far enough f = ends (sought so-far)
 settled b p so-far nothing f = goes-on so-far
 settled b p so-far (alone s) f = goes-on (improve so-far s)
 settled b p so-far (across bound) f = reached b p so-far f
 
 unfoldable pub try-pair : Limits → Seek → Option Scored → Pair → Turn
 try-pair b seek so-far p =
-    let a = asked b (best-score so-far) p in
+    let a = asked b p in
     settled b p so-far a (middle-of seek p a)
+
+-- The pairs end when the sum reaches the best score; else the pair is tried.
+unfoldable pub end-or-try : Bool → Limits → Seek → Option Scored → Pair → Turn
+end-or-try true b seek so-far p = ends (sought so-far)
+end-or-try false b seek so-far p = try-pair b seek so-far p
 
 unfoldable pub next-pair : Turn → (Option Scored → Sought) → Sought
 next-pair (ends e) again = e
@@ -233,7 +238,7 @@ next-pair (goes-on so-far) again = again so-far
 
 unfoldable pub try-pairs : Limits → Seek → List Pair → Option Scored → Sought
 try-pairs b seek [] so-far = sought so-far
-try-pairs b seek (p ∷ ps) so-far = next-pair (try-pair b seek so-far p) (try-pairs b seek ps)
+try-pairs b seek (p ∷ ps) so-far = next-pair (end-or-try (best-score so-far ≤ᶠ p .sum) b seek so-far p) (try-pairs b seek ps)
 
 abbrev pub by-sum : Pair → Pair → Bool
 by-sum p q = p .sum <ᶠ q .sum

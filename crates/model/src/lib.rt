@@ -72,17 +72,6 @@ pub struct Road {
     pub access: bool,
 }
 
-// A road that a point may lie on; its number stands in the road.
-pub struct Candidate {
-    pub road: Road,
-    pub distance: f64,
-    pub bearing_diff: f64,
-    pub frc_diff: u8,
-    pub fow_score: f64,
-    pub score: f64,
-    pub fraction: f64,
-}
-
 // What a leg accepts: its DNP, the least and the greatest length, how far its searches go, and the raised class limit.
 pub struct Limits {
     pub dnp: f64,

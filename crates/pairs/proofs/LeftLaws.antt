@@ -7,7 +7,7 @@ use native.Mathlib.Nat.{not-suc-le-zero, le-of-suc-le-suc, zero-lt-suc}
 use native.Mathlib.Omega.{arith}
 use lib.ListN.{length, getD, take, drop, replicate, length-replicate, getD-replicate, drop-of-length-le}
 use lib.Seq.{getD-take}
-use Rattle.model.specs.declared.Candidate.{Candidate}
+use Rattle.model.specs.Candidates.{Candidate}
 use Rattle.model.specs.Legs.{Pair, pair, pairs}
 use Rattle.model.proofs.Members.{Every, every-none, every-cons, every-append, every-map}
 use Rattle.bounds.proofs.Choices.{below-or-not}

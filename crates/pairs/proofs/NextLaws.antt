@@ -9,7 +9,7 @@ use native.Mathlib.Omega.{arith}
 use lib.ListN.{length, getD, take, drop, set, length-drop, length-set}
 use lib.Seq.{drop-cons, getD-take, getD-drop, getD-set-same, length-take-le, take-set-le, take-set-lt, drop-set-lt}
 use lib.Ieee.{Float, binary64, add, lt}
-use Rattle.model.specs.declared.Candidate.{Candidate}
+use Rattle.model.specs.Candidates.{Candidate}
 use Rattle.model.specs.Lists.{sort}
 use Rattle.model.specs.Legs.{Pair, pair, by-sum}
 use Rattle.model.proofs.Members.{Every, every-append}

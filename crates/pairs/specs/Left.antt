@@ -6,7 +6,7 @@ use Prim.Native.Nat.{ℕ, _<_}
 use lib.Dec.{T}
 use lib.ListN.{length, getD, drop}
 use lib.Ieee.{Float, nan, binary64, add, lt, le}
-use Rattle.model.specs.declared.Candidate.{Candidate}
+use Rattle.model.specs.Candidates.{Candidate}
 use Rattle.model.specs.Legs.{Pair, pair}
 use Rattle.bounds.specs.Amounts.{Amount}
 use Rattle.candidates.specs.Found.{no-candidate}

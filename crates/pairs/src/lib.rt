@@ -3,7 +3,7 @@ ghost use mathlib.Core.Path.{_≡_};
 ghost use mathlib.Core.List.{List, _∷_};
 ghost use Prim.Native.Nat.{ℕ, _<_, _≤_};
 ghost use lib.ListN.{length, take, getD};
-ghost use Rattle.model.specs.declared.Candidate.{Candidate};
+ghost use Rattle.model.specs.Candidates.{Candidate};
 ghost use Rattle.model.specs.Lists.{sort};
 ghost use Rattle.model.specs.Legs.{pair, by-sum};
 ghost use Rattle.candidates.specs.Found.{no-candidate};

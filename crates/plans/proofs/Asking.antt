@@ -6,33 +6,28 @@ use lib.Ieee.{Float}
 use Rattle.model.specs.declared.Limits.{Limits}
 use Rattle.model.specs.Numbers.{_≤ᶠ_, f0}
 use Rattle.model.specs.View.{allows}
-use Rattle.model.specs.Legs.{Pair, enough, nothing, alone, across, asked, on-one-road, middle-max}
+use Rattle.model.specs.Legs.{Pair, nothing, alone, across, asked, on-one-road, middle-max}
 
-module _ (b : Limits) (least : Float) (p : Pair) where
-  pub asked-enough : least ≤ᶠ p .sum ≡ true → enough ≡ asked b least p
+module _ (b : Limits) (p : Pair) where
+  pub asked-start : allows (b .class) (p .start .road) ≡ false → nothing ≡ asked b p
   unfolding asked
-  asked-enough e = rw (e, asked)
+  asked-start e = rw (e, asked)
 
-  module _ (l : least ≤ᶠ p .sum ≡ false) where
-    pub asked-start : allows (b .class) (p .start .road) ≡ false → nothing ≡ asked b least p
+  module _ (s : allows (b .class) (p .start .road) ≡ true) where
+    pub asked-end : allows (b .class) (p .end .road) ≡ false → nothing ≡ asked b p
     unfolding asked
-    asked-start e = rw (l, e, asked)
+    asked-end e = rw (s, e, asked)
 
-    module _ (s : allows (b .class) (p .start .road) ≡ true) where
-      pub asked-end : allows (b .class) (p .end .road) ≡ false → nothing ≡ asked b least p
+    module _ (t : allows (b .class) (p .end .road) ≡ true) where
+      pub asked-alone : p .start .road .number ≡ p .end .road .number → alone (on-one-road b p) ≡ asked b p
       unfolding asked
-      asked-end e = rw (l, s, e, asked)
+      asked-alone e = rw (s, t, eq-eqb (p .start .road .number) (p .end .road .number) e, asked)
 
-      module _ (t : allows (b .class) (p .end .road) ≡ true) where
-        pub asked-alone : p .start .road .number ≡ p .end .road .number → alone (on-one-road b p) ≡ asked b least p
+      module _ (n : p .start .road .number ≡ p .end .road .number → ⊥) (bound : Float) (e : bound ≡ middle-max b p) where
+        pub asked-short : bound ≤ᶠ f0 ≡ true → nothing ≡ asked b p
         unfolding asked
-        asked-alone e = rw (l, s, t, eq-eqb (p .start .road .number) (p .end .road .number) e, asked)
+        asked-short w = rw (s, t, ne-eqb (p .start .road .number) (p .end .road .number) n, sym e, w, asked)
 
-        module _ (n : p .start .road .number ≡ p .end .road .number → ⊥) (bound : Float) (e : bound ≡ middle-max b p) where
-          pub asked-short : bound ≤ᶠ f0 ≡ true → nothing ≡ asked b least p
-          unfolding asked
-          asked-short w = rw (l, s, t, ne-eqb (p .start .road .number) (p .end .road .number) n, sym e, w, asked)
-
-          pub asked-across : bound ≤ᶠ f0 ≡ false → across bound ≡ asked b least p
-          unfolding asked
-          asked-across w = rw (l, s, t, ne-eqb (p .start .road .number) (p .end .road .number) n, sym e, w, asked)
+        pub asked-across : bound ≤ᶠ f0 ≡ false → across bound ≡ asked b p
+        unfolding asked
+        asked-across w = rw (s, t, ne-eqb (p .start .road .number) (p .end .road .number) n, sym e, w, asked)

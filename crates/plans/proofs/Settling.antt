@@ -75,10 +75,6 @@ module _ (b : Limits) (q : Pair) (best : Best) (m : Middle) where
     abbrev pub Settled : State → Type 0
     Settled r = Comes best r (count-of m) (λ roads old new. settled b q (best-of roads best old) (asked-of roads p) (found-of roads m new))
 
-    pub by-enough : p ≡ P.Enough → Settled (record { phase = H.Ended; best = best; taken = 0 })
-    unfolding settled asked-of turn-of
-    by-enough e = record { few = omega arith; middle = inl (refl, refl); means = λ roads old new h. rw e }
-
     pub by-nothing : p ≡ P.Nothing → Settled (record { phase = H.On; best = best; taken = 0 })
     unfolding settled asked-of turn-of
     by-nothing e = record { few = omega arith; middle = inl (refl, refl); means = λ roads old new h. rw e }

@@ -8,7 +8,7 @@ use lib.ListN.{length, take, drop}
 use lib.Ieee.{Float}
 use Rattle.model.specs.declared.Road.{Road}
 use Rattle.model.specs.Search.{Found, found, none-found, full}
-use Rattle.model.specs.Legs.{Scored, Asked, enough, nothing, alone, across, Turn, ends, goes-on, sought, heap-full}
+use Rattle.model.specs.Legs.{Scored, Asked, nothing, alone, across, Turn, ends, goes-on, heap-full}
 use Rattle.rules.specs.declared.Best.{Best}
 use Rattle.rules.specs.Code.{best-of}
 use Rattle.plans.specs.declared.Plan.{Plan}
@@ -23,7 +23,6 @@ use Rattle.plans.specs.declared.State.{State}
 
 -- a route on one road has no middle
 unfoldable pub asked-of : (ℕ → Road) → Plan → Asked
-asked-of roads P.Enough = enough
 asked-of roads P.Nothing = nothing
 asked-of roads (P.Alone b) = alone (best-of roads b [])
 asked-of roads (P.Across bound) = across bound
@@ -46,7 +45,6 @@ count-of M.Full = 0
 
 unfoldable pub turn-of : Phase → Option Scored → Turn
 turn-of H.On b = goes-on b
-turn-of H.Ended b = ends (sought b)
 turn-of H.Full b = ends heap-full
 
 -- the first n entries of the search's area before the rest of the old one

@@ -3,9 +3,8 @@ pub mod turns;
 
 use rules::Best;
 
-// What a pair asks for: an end of the pairs, nothing, its route on one road, or a search within these metres.
+// What a pair asks for: nothing, its route on one road, or a search within these metres.
 pub enum Plan {
-    Enough,
     Nothing,
     Alone(Best),
     Across(f64),
@@ -24,10 +23,9 @@ pub enum Middle {
     Full,
 }
 
-// Whether the pairs go on, have ended, or ended with a full heap.
+// Whether the pairs go on, or ended with a full heap.
 pub enum Phase {
     On,
-    Ended,
     Full,
 }
 

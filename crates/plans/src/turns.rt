@@ -6,7 +6,7 @@ ghost use Prim.Native.Nat.{ℕ};
 ghost use lib.ListN.{take};
 ghost use Rattle.model.specs.declared.Road.{Road};
 ghost use Rattle.model.specs.Numbers.{f0};
-ghost use Rattle.model.specs.Legs.{Pair, Seek, best-score, asked, over, improve, middle-of, goes-on, reached, settled};
+ghost use Rattle.model.specs.Legs.{Pair, Seek, asked, over, improve, middle-of, goes-on, reached, settled};
 ghost use Rattle.rules.specs.Code.{pair-as, best-of};
 ghost use Rattle.plans.specs.Turns.{asked-of, by-ask, found-of, count-of, renewed, Comes};
 use crate::Ask;
@@ -24,20 +24,10 @@ use rules::Route;
 use rules::lengths;
 use rules::routes;
 
-// What a pair asks for, with the best so far.
-pub fn plan(
-    b: Limits,
-    best: Best,
-    start: Candidate,
-    first: Road,
-    end: Candidate,
-    last: Road,
-) -> Plan
-    ensures { λ r. ⌜ ((roads : ℕ → Road) (old : List ℕ) → asked-of roads r ≡ asked b (best-score (best-of roads best old)) (pair-as start first end last)) ⌝ }
+// What a pair asks for.
+pub fn plan(b: Limits, start: Candidate, first: Road, end: Candidate, last: Road) -> Plan
+    ensures { λ r. ⌜ ((roads : ℕ → Road) → asked-of roads r ≡ asked b (pair-as start first end last)) ⌝ }
 {
-    if routes::best_score(best) <= start.score + end.score {
-        return Plan::Enough;
-    }
     if !road_class::allows(b.class, first) {
         return Plan::Nothing;
     }
@@ -60,7 +50,6 @@ pub fn ask(p: Plan) -> Ask
     ensures { λ r. ⌜ ((roads : ℕ → Road) (seek : Seek) (q : Pair) → by-ask (seek (q .start .road .target) (q .end .road .source)) r ≡ middle-of seek q (asked-of roads p)) ⌝ }
 {
     match p {
-        Plan::Enough => Ask::No,
         Plan::Nothing => Ask::No,
         Plan::Alone(_) => Ask::No,
         Plan::Across(bound) => Ask::Within(bound),
@@ -179,11 +168,6 @@ pub fn settle(
     ensures { λ r. ⌜ Comes best r (count-of m) (λ roads old new. settled b (pair-as start first end last) (best-of roads best old) (asked-of roads p) (found-of roads m new)) ⌝ }
 {
     match p {
-        Plan::Enough => State {
-            phase: Phase::Ended,
-            best,
-            taken: 0,
-        },
         Plan::Nothing => State {
             phase: Phase::On,
             best,

@@ -8,7 +8,7 @@ use lib.ListN.{length, getD, drop}
 use lib.Seq.{drop-cons}
 use lib.Ieee.{Float}
 use Rattle.model.specs.declared.Counts.{Counts}
-use Rattle.model.specs.declared.Candidate.{Candidate}
+use Rattle.model.specs.Candidates.{Candidate}
 use Rattle.model.specs.Lists.{In, maybe, tab}
 use Rattle.model.specs.Layout.{point-along-line}
 use Rattle.model.specs.Judge.{WellFormed, counts-good}

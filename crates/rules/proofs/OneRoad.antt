@@ -10,7 +10,7 @@ use borrow.Author.Tests.{ne-eqb}
 use lib.Dec.{T, eqb}
 use lib.ListN.{length, take, getD, length-map, length-take}
 use lib.Seq.{take-suc, take-all, getD-take}
-use Rattle.model.specs.declared.Candidate.{Candidate}
+use Rattle.model.specs.Candidates.{Candidate}
 use Rattle.model.specs.declared.Limits.{Limits}
 use Rattle.model.specs.Numbers.{_≤ᶠ_, f10}
 use Rattle.model.specs.Lists.{fold}

@@ -1,4 +1,4 @@
-use Rattle.legs.proofs.Ending.{ends-on, ends-ended, ends-full, full-holds}
+use Rattle.legs.proofs.Ending.{ends-on, ends-full, full-holds}
 use mathlib.Core.Path.{_∙_}
 use borrow.Author.Needs.{needs}
 use Rattle.legs.proofs.ended.Statement.{statement}
@@ -13,20 +13,11 @@ best-or-none-requires c κs = search needs
 enum-told-2 : tie.Need-enum-told-2
 enum-told-2 c = search needs
 
-best-or-none-requires-2 : tie.Need-best-or-none-requires-2
-best-or-none-requires-2 c κs = search needs
-
-enum-told-3 : tie.Need-enum-told-3
-enum-told-3 c = search needs
-
 returns : tie.Need-returns
 returns c = (λ roads area. c .best-or-none .ensures .0 roads area ∙ ends-on _ roads area (c .before .enum-told .given .1), c .best-or-none .ensures .1)
 
 returns-2 : tie.Need-returns-2
-returns-2 c = (λ roads area. c .best-or-none2 .ensures .0 roads area ∙ ends-ended _ roads area (c .before .enum-told2 .given .1), c .best-or-none2 .ensures .1)
-
-returns-3 : tie.Need-returns-3
-returns-3 c = (λ roads area. ends-full _ roads area (c .enum-told3 .given .1), λ n e area fits. full-holds n e area (c .before .before .before .args .st .best) fits)
+returns-2 c = (λ roads area. ends-full _ roads area (c .enum-told2 .given .1), λ n e area fits. full-holds n e area (c .before .before .before .args .st .best) fits)
 
 pub ended-spec : {M : Type 1} → statement M
 ended-spec =
@@ -35,8 +26,5 @@ ended-spec =
     enum-told
     best-or-none-requires
     enum-told-2
-    best-or-none-requires-2
-    enum-told-3
     returns
-    returns-2
-    returns-3)
+    returns-2)

@@ -1,8 +1,7 @@
 use mathlib.Core.Option.{some}
-use Rattle.model.specs.declared.Candidate.{Candidate}
 use Rattle.candidates.proofs.Gathered.{sorted-all}
 use Rattle.candidates.proofs.Distances.{least-begin, least-none, least-nearer, least-kept}
-use Rattle.model.specs.Candidates.{better}
+use Rattle.model.specs.Candidates.{Candidate, better}
 use Rattle.candidates.proofs.Insertion.{length-insert}
 use Rattle.candidates.specs.Near.{Alike}
 use Rattle.candidates.proofs.Gathered.{sorted, sorted-none, sorted-some, sorted-few, row-candidate, row-kept, row-dropped}

@@ -12,9 +12,6 @@ add-result c = search needs
 enum-told-2 : tie.Need-enum-told-2
 enum-told-2 c = search needs
 
-enum-told-3 : tie.Need-enum-told-3
-enum-told-3 c = search needs
-
 returns : tie.Need-returns
 unfolding place-after
 returns c = rw (c .enum-told .given .1)
@@ -23,10 +20,6 @@ returns-2 : tie.Need-returns-2
 unfolding place-after
 returns-2 c = rw (c .enum-told2 .given .1)
 
-returns-3 : tie.Need-returns-3
-unfolding place-after
-returns-3 c = rw (c .enum-told3 .given .1)
-
 pub next-place-spec : {M : Type 1} → statement M
 next-place-spec =
-    tie.close (tie.spec enum-told add-result enum-told-2 enum-told-3 returns returns-2 returns-3)
+    tie.close (tie.spec enum-told add-result enum-told-2 returns returns-2)

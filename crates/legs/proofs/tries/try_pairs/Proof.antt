@@ -6,7 +6,7 @@ use lib.ListN.{take}
 use mathlib.Core.List.{_∷_}
 use Rattle.model.specs.Legs.{by-sum}
 use Rattle.model.specs.Lists.{sort}
-use Rattle.model.specs.declared.Candidate.{Candidate}
+use Rattle.model.specs.Candidates.{Candidate}
 use Rattle.candidates.proofs.Held.{held-at}
 use Rattle.candidates.specs.Found.{no-candidate, at-road, item-at, held}
 use Rattle.legs.proofs.Going.{Good, good-start, nearer, good-enough, good-turn, good-end, Kept, kept-start}
@@ -18,7 +18,7 @@ use Rattle.model.specs.Sheet.{sheet-of, road-at}
 use borrow.Author.Needs.{needs}
 use native.Mathlib.Omega.{arith}
 use mathlib.Core.Path.{_≡_, ap, _∙_}
-use mathlib.Core.Bool.{true}
+use mathlib.Core.Bool.{true, false}
 use Rattle.model.specs.Numbers.{_≤ᶠ_}
 use Rattle.rules.specs.Code.{best-of}
 use lib.ListN.{getD}
@@ -185,13 +185,14 @@ loop-again c = let p = c .before .before .before .before .before .before .before
     let is : sort by-sum (left (held t (a .t5)) (held t (a .t6)) (take (a .t5 .count) (c .before .before .before .before .before .before .before .before .before .before .before .before .before .before .before .before .before .before .before .before .before .before .before .before .before .before .before .before .before .before .before .before .before .before .before .before .before .before .before .before .before .before .loop .heads))) ≡ pair x y ∷ sort by-sum (left (held t (a .t5)) (held t (a .t6)) (take (a .t5 .count) heads)) =
     is0 ∙ ap (λ (z : Candidate). pair z (getD (held t (a .t6)) j no-candidate) ∷ sort by-sum (left (held t (a .t5)) (held t (a .t6)) (take (a .t5 .count) heads))) (held-at t (a .t5) (p .2 .room) i (c .before .before .before .before .before .before .before .before .before .before .before .before .before .before .before .before .before .before .before .before .before .before .before .before .before .before .before .before .before .before .before .before .before .before .before .before .before .next-pair .ensures .0)) ∙ ap (λ (z : Candidate). pair x z ∷ sort by-sum (left (held t (a .t5)) (held t (a .t6)) (take (a .t5 .count) heads))) (held-at t (a .t6) (p .3 .room) j (c .before .before .before .before .before .before .before .before .before .before .before .before .before .before .before .before .before .before .before .before .before .before .before .before .before .before .before .before .before .before .before .before .before .before .before .before .before .next-pair .ensures .1)) in
     let ten-heads = c .before .before .before .before .before .before .before .before .before .before .before .before .before .before .before .before .before .before .before .before .before .before .before .before .before .before .before .before .before .before .before .before .before .before .before .before .before .next-pair .kept .1 .1 .1 .1 .0 ∙ c .before .before .before .before .before .before .before .before .before .before .before .before .before .before .before .before .before .before .before .before .before .before .before .before .before .before .before .before .before .before .before .before .before .before .before .before .before .before .before .before .before .before .loop .inv .2 .long in
-    let there = pair-there t (a .c) (a .t5) (a .t6) (p .2) (p .3) (c .before .before .before .before .before .before .before .before .before .before .before .before .before .before .before .before .before .before .before .before .before .before .before .before .before .before .before .before .before .before .before .before .before .before .before .before .before .before .before .before .before .before .loop .t) (c .before .before .before .before .before .before .before .before .before .before .before .before .before .before .before .before .before .before .before .before .before .before .before .before .before .before .before .before .before .before .before .before .before .before .before .before .before .before .before .before .before .loop-test .taken) (c .before .before .before .before .before .before .before .before .before .before .before .before .before .before .before .before .before .before .before .before .before .before .before .before .before .before .before .before .before .before .before .before .before .before .before .before .before .before .before .before .before .before .loop .heads) (c .before .before .before .before .before .before .before .before .before .before .before .before .before .before .before .before .before .before .before .before .before .before .before .before .before .before .before .before .before .before .before .before .before .before .before .before .before .before .before .before .before .before .loop .inv .2) x y heads ten-heads is d in (
+    let there = pair-there t (a .c) (a .t5) (a .t6) (p .2) (p .3) (c .before .before .before .before .before .before .before .before .before .before .before .before .before .before .before .before .before .before .before .before .before .before .before .before .before .before .before .before .before .before .before .before .before .before .before .before .before .before .before .before .before .before .loop .t) (c .before .before .before .before .before .before .before .before .before .before .before .before .before .before .before .before .before .before .before .before .before .before .before .before .before .before .before .before .before .before .before .before .before .before .before .before .before .before .before .before .before .loop-test .taken) (c .before .before .before .before .before .before .before .before .before .before .before .before .before .before .before .before .before .before .before .before .before .before .before .before .before .before .before .before .before .before .before .before .before .before .before .before .before .before .before .before .before .before .loop .heads) (c .before .before .before .before .before .before .before .before .before .before .before .before .before .before .before .before .before .before .before .before .before .before .before .before .before .before .before .before .before .before .before .before .before .before .before .before .before .before .before .before .before .before .loop .inv .2) x y heads ten-heads is d in
+    let missed : best-score (best-of (road-at t) (loop .st .best) (loop .best-route)) ≤ᶠ pair x y .sum ≡ false = rw (c .before .before .before .before .before .before .before .before .before .before .before .before .before .before .before .before .before .before .before .before .before .before .before .before .before .before .before .before .before .before .before .before .best-score .ensures (road-at t) (loop .best-route)) at (c .before .before .before .before .before .before .before .before .before .before .before .before .before .before .before .before .before .before .before .before .before .before .before .before .before .before .before .before .before .if1 .left) in (
       record {
         sizes = sizes-on (loop .inv .0 .sizes) record { real = k .0; penalised = k .1 .0; came = k .1 .1 .0; key = k .1 .1 .1 .1 .1 .0; cost = k .1 .1 .1 .1 .1 .1 .0; node = k .1 .1 .1 .1 .1 .1 .1 .0; order = k .1 .1 .1 .1 .1 .1 .1 .1 .0 };
         route = k .1 .1 .1 .0 ∙ loop .inv .0 .route;
         best-route = k .1 .1 .1 .1 .0 ∙ loop .inv .0 .best-route;
       },
-      rw (c .next-place .ensures) (good-turn _ _ _ _ _ _ _ long _ _ _ (loop .inv .1) (c .before .before .before .before .before .before .before .before .before .before .before .before .before .before .before .before .before .before .before .before .before .before .before .before .before .before .before .before .before .before .before .before .before .before .before .before .before .before .before .before .before .loop-test .taken) (pair x y) d there (c .before .before .before .before .before .before .before .before .before .before .before .before .before .before .before .before .before .before .before .try-pair .result) next (c .before .before .before .before .before .before .before .before .before .before .before .before .before .before .before .before .before .before .before .try-pair .ensures .0) (c .before .before .before .before .before .before .before .before .before .before .before .before .before .before .before .before .before .before .before .try-pair .ensures .1)),
+      rw (c .next-place .ensures) (good-turn _ _ _ _ _ _ _ long _ _ _ (loop .inv .1) (c .before .before .before .before .before .before .before .before .before .before .before .before .before .before .before .before .before .before .before .before .before .before .before .before .before .before .before .before .before .before .before .before .before .before .before .before .before .before .before .before .before .loop-test .taken) (pair x y) d there missed (c .before .before .before .before .before .before .before .before .before .before .before .before .before .before .before .before .before .before .before .try-pair .result) next (c .before .before .before .before .before .before .before .before .before .before .before .before .before .before .before .before .before .before .before .try-pair .ensures .0) (c .before .before .before .before .before .before .before .before .before .before .before .before .before .before .before .before .before .before .before .try-pair .ensures .1)),
       rw (c .next-place .ensures) (heads-next t (a .c) (a .t5) (a .t6) (p .2) (p .3) (loop .t) (c .before .before .before .before .before .before .before .before .before .before .before .before .before .before .before .before .before .before .before .before .before .before .before .before .before .before .before .before .before .before .before .before .before .before .before .before .before .before .before .before .before .loop-test .taken) (loop .heads) (loop .inv .2) x y heads ten-heads is (c .before .before .before .before .before .before .before .before .before .before .before .before .before .before .before .before .before .before .before .try-pair .result .phase)),
     )
 

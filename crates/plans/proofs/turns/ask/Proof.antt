@@ -10,9 +10,6 @@ enum-told c = search needs
 enum-told-2 : tie.Need-enum-told-2
 enum-told-2 c = search needs
 
-enum-told-3 : tie.Need-enum-told-3
-enum-told-3 c = search needs
-
 enum-known-p : tie.Need-enum-known-p
 enum-known-p c = search needs
 
@@ -26,13 +23,9 @@ returns-2 c = λ roads seek q. rw (c .enum-told2 .given .1)
 
 returns-3 : tie.Need-returns-3
 unfolding by-ask middle-of asked-of
-returns-3 c = λ roads seek q. rw (c .enum-told3 .given .1)
-
-returns-4 : tie.Need-returns-4
-unfolding by-ask middle-of asked-of
-returns-4 c = λ roads seek q. rw (c .before .p .given .1)
+returns-3 c = λ roads seek q. rw (c .before .p .given .1)
 
 pub ask-spec : {M : Type 1} → statement M
 ask-spec =
     tie.close
-    (tie.spec enum-told enum-told-2 enum-told-3 enum-known-p returns returns-2 returns-3 returns-4)
+    (tie.spec enum-told enum-told-2 enum-known-p returns returns-2 returns-3)

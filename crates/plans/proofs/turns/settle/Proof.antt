@@ -1,14 +1,11 @@
 use Rattle.rules.specs.Code.{pair-as}
 use borrow.Author.Needs.{needs}
-use Rattle.plans.proofs.Settling.{by-enough, by-nothing, by-alone, by-across}
+use Rattle.plans.proofs.Settling.{by-nothing, by-alone, by-across}
 use Rattle.plans.proofs.turns.settle.Statement.{statement}
 use Rattle.plans.proofs.turns.settle.Tie as tie
 
 enum-told : tie.Need-enum-told
 enum-told c = search needs
-
-enum-told-2 : tie.Need-enum-told-2
-enum-told-2 c = search needs
 
 enum-known-p : tie.Need-enum-known-p
 enum-known-p c = search needs
@@ -19,36 +16,31 @@ without-middle-requires c κs = search needs
 take-better-requires : tie.Need-take-better-requires
 take-better-requires c κs = search needs
 
-enum-told-3 : tie.Need-enum-told-3
-enum-told-3 c = search needs
+enum-told-2 : tie.Need-enum-told-2
+enum-told-2 c = search needs
 
 reach-requires : tie.Need-reach-requires
 reach-requires c κs = search needs
 
 returns : tie.Need-returns
-returns c = let s = c .before .before .args in by-enough (s .b) (pair-as (s .start) (s .first) (s .end) (s .last)) (s .best) (s .m) (s .p) (c .enum-told .given .1)
+returns c = let s = c .before .before .args in by-nothing (s .b) (pair-as (s .start) (s .first) (s .end) (s .last)) (s .best) (s .m) (s .p) (c .enum-told .given .1)
 
 returns-2 : tie.Need-returns-2
-returns-2 c = let s = c .before .before .args in by-nothing (s .b) (pair-as (s .start) (s .first) (s .end) (s .last)) (s .best) (s .m) (s .p) (c .enum-told2 .given .1)
+returns-2 c = let s = c .before .before .before .before .before .args in by-alone (s .b) (pair-as (s .start) (s .first) (s .end) (s .last)) (s .best) (s .m) (s .p) _ (c .before .without-middle .result) (c .before .before .before .p .given .1) (c .before .without-middle .ensures .0) (c .before .without-middle .ensures .1) (c .take-better .result) (c .take-better .ensures)
 
 returns-3 : tie.Need-returns-3
-returns-3 c = let s = c .before .before .before .before .before .args in by-alone (s .b) (pair-as (s .start) (s .first) (s .end) (s .last)) (s .best) (s .m) (s .p) _ (c .before .without-middle .result) (c .before .before .before .p .given .1) (c .before .without-middle .ensures .0) (c .before .without-middle .ensures .1) (c .take-better .result) (c .take-better .ensures)
-
-returns-4 : tie.Need-returns-4
-returns-4 c = let s = c .before .before .before .args in by-across (s .b) (pair-as (s .start) (s .first) (s .end) (s .last)) (s .best) (s .m) (s .p) _ (c .before .enum-told3 .given .1) (c .reach .result) (c .reach .ensures)
+returns-3 c = let s = c .before .before .before .args in by-across (s .b) (pair-as (s .start) (s .first) (s .end) (s .last)) (s .best) (s .m) (s .p) _ (c .before .enum-told2 .given .1) (c .reach .result) (c .reach .ensures)
 
 pub settle-spec : {M : Type 1} → statement M
 settle-spec =
     tie.close
     (tie.spec
     enum-told
-    enum-told-2
     enum-known-p
     without-middle-requires
     take-better-requires
-    enum-told-3
+    enum-told-2
     reach-requires
     returns
     returns-2
-    returns-3
-    returns-4)
+    returns-3)

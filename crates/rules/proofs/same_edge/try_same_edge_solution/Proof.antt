@@ -8,7 +8,7 @@ use Rattle.model.proofs.Parsed.{number-is}
 use Rattle.model.specs.Sheet.{road-at, sheet-of}
 use Rattle.model.specs.Legs.{pair, pairs, take-close}
 use Rattle.model.specs.Lists.{fold}
-use Rattle.model.specs.declared.Candidate.{Candidate}
+use Rattle.model.specs.Candidates.{Candidate}
 use Rattle.model.specs.declared.Road.{Road}
 use lib.ListN.{getD, length, take}
 use mathlib.Core.List.{List, map}
