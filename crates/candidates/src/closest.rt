@@ -1,6 +1,7 @@
 // Whether every point has a candidate, and the nearest one of all is near enough: without candidates where that can be told by the rows.
 use crate::candidate;
 use model::Counts;
+use model::MOST_MEASURED;
 use model::Settings;
 use sheet::points;
 use sheet::roads;
@@ -9,6 +10,7 @@ ghost use Prim.Native.Nat.{_≤_, _<_};
 ghost use lib.Dec.{ltb};
 ghost use lib.ListN.{length};
 ghost use Rattle.model.specs.Numbers.{infinity};
+ghost use Rattle.model.specs.Layout.{most-measured};
 ghost use Rattle.model.specs.Judge.{WellFormed, rows-before};
 ghost use Rattle.model.specs.Sheet.{sheet-of};
 ghost use Rattle.model.specs.Candidates.{nearest};
@@ -21,6 +23,9 @@ pub enum Points {
     Fine,
     NoCandidate(usize),
 }
+
+// The most rows of a point that pass: all that it may have.
+const MOST_PASSING: usize = MOST_MEASURED as usize;
 
 // How many rows of a point pass, and the least distance of these.
 pub struct Seen {
@@ -37,7 +42,7 @@ pub struct Away {
 // The rows of a point that pass, best first.
 pub struct Aways {
     pub count: usize,
-    pub items: [Away; 64],
+    pub items: [Away; MOST_PASSING],
 }
 
 // Past every distance.
@@ -103,7 +108,7 @@ fn order_rows(s: &[u8], c: Counts, set: Settings, i: usize, first: usize) -> Awa
         score: 0.0,
         distance: 0.0,
     };
-    let mut items = [nothing; 64];
+    let mut items = [nothing; MOST_PASSING];
     let mut count = 0;
     let mut k = 0;
     while k < all {
@@ -135,7 +140,7 @@ fn order_rows(s: &[u8], c: Counts, set: Settings, i: usize, first: usize) -> Awa
 
 // The least distance of the first n of them.
 fn least_of(xs: Aways, n: usize) -> f64
-    requires { ⌜ n ≤ 64 ⌝ }
+    requires { ⌜ n ≤ most-measured ⌝ }
     ensures { λ d. ⌜ d ≡ least-of xs n ⌝ }
 {
     let mut least = infinity();

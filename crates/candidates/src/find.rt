@@ -17,7 +17,7 @@ pub const MOST_TRIED: usize = 10;
 // The first `count` places hold a point's candidates, best first.
 pub struct Candidates {
     pub count: usize,
-    pub items: [Candidate; 10],
+    pub items: [Candidate; MOST_TRIED],
 }
 
 // How many of n candidates a leg tries.
@@ -47,7 +47,7 @@ pub fn find_candidates(s: &[u8], c: Counts, set: Settings, i: usize) -> Candidat
     ensures { λ xs. ⌜ Lists (sheet-of (now (s .entry)) c) c i xs ⌝ }
 {
     let nothing = no_item();
-    let mut items = [nothing; 10];
+    let mut items = [nothing; MOST_TRIED];
     let mut count = 0;
     let most = tried(set.max_candidates as usize);
     if 0 < most {

@@ -2,6 +2,7 @@
 use crate::middle;
 use candidates::candidate::Candidate;
 use candidates::find::Candidates;
+use candidates::find::MOST_TRIED;
 use model::Counts;
 use model::Limits;
 use model::Settings;
@@ -117,17 +118,17 @@ pub fn try_pairs(
     ensures fits { λ t. ⌜ Fits (c .n) (c .e) (t .best) (now («best_route» .exit)) ⌝ }
 {
     let count = starts.count * ends.count;
-    let mut by_start = [0.0; 10];
-    let mut by_end = [0.0; 10];
+    let mut by_start = [0.0; MOST_TRIED];
+    let mut by_end = [0.0; MOST_TRIED];
     let mut k = 0;
-    'fill: while k < 10 {
+    'fill: while k < MOST_TRIED {
         let x = starts.items[k];
         let y = ends.items[k];
         by_start[k] = x.score;
         by_end[k] = y.score;
         k += 1;
     }
-    let mut heads = [0usize; 10];
+    let mut heads = [0usize; MOST_TRIED];
     let unset = routes::no_best();
     let mut st = State {
         phase: Phase::On,
