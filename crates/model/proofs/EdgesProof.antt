@@ -63,5 +63,7 @@ ties = record {
   real-bound = refl;
   kept-cost = refl;
   equal-sums = refl;
+  equal-to-best = refl;
+  below-the-best = refl;
   equal-coverage = refl;
 }

@@ -2,6 +2,7 @@
 use Prim.Native.Nat.{ℕ}
 use mathlib.Core.Path.{_≡_}
 use mathlib.Core.Bool.{Bool, true, false, cond}
+use mathlib.Core.Option.{Option, some}
 use mathlib.Core.List.{List, [], _∷_}
 use lib.ListN.{getD, set, take, replicate}
 use lib.Ieee.{Float}
@@ -13,7 +14,7 @@ use Rattle.model.specs.View.{Leg, View, limits-of}
 use Rattle.model.specs.Candidates.{Candidate, is-access-road, bearing-difference}
 use Rattle.model.specs.Heap.{push, pop}
 use Rattle.model.specs.Search.{Query, Searcher, found, full, bounded-astar}
-use Rattle.model.specs.Legs.{Coverage, Pair, close, excellent, pair, by-sum}
+use Rattle.model.specs.Legs.{Coverage, Scored, Pair, Seek, best, heap-full, close, excellent, pair, by-sum, route-alone, try-pairs}
 use Rattle.model.specs.Decode.{seek-of, greater}
 use Rattle.model.specs.Call.{Areas, Lists, Decoded, Match, refused, matched, decode}
 use Rattle.model.specs.Build.{settings-with, default-settings, point, road, row, goal, sheet-bytes}
@@ -94,6 +95,14 @@ candidate-on number distance score = record {
 
 abbrev pub pair-at : ℕ → ℕ → Pair
 pair-at a b = pair (candidate-on 0 a 0) (candidate-on 0 b 0)
+
+-- a search that fills the heap wherever it is asked
+abbrev pub always-full : Seek
+always-full start goal bound = full
+
+-- the best so far is a route of score 3
+abbrev pub score-3 : Option Scored
+score-3 = some record { route = route-alone (pair-at 0 0); score = nat 3 }
 
 -- from the middle of the first of the three roads to the middle of the last, with the middle one's id
 abbrev pub three-match : ℕ → Match
@@ -266,5 +275,8 @@ pub record Ties : Type 0 where
   pub kept-cost : bounded-astar 9 kept 0 ≡ found (nat 30) (way 1 0 4 8 false ∷ way 4 4 1 8 false ∷ way 2 1 2 10 false ∷ way 3 2 3 10 false ∷ [])
   -- equal sums keep the order of the pairs
   pub equal-sums : sort by-sum (pair (candidate-on 0 0 1) (candidate-on 1 0 2) ∷ pair (candidate-on 2 0 2) (candidate-on 3 0 1) ∷ []) ≡ pair (candidate-on 0 0 1) (candidate-on 1 0 2) ∷ pair (candidate-on 2 0 2) (candidate-on 3 0 1) ∷ []
+  -- a pair whose sum reaches the best score ends the pairs: its search would have filled the heap
+  pub equal-to-best : try-pairs limits always-full (pair (candidate-on 0 0 1) (candidate-on 1 0 2) ∷ []) score-3 ≡ best (route-alone (pair-at 0 0))
+  pub below-the-best : try-pairs limits always-full (pair (candidate-on 0 0 1) (candidate-on 1 0 1) ∷ []) score-3 ≡ heap-full
   -- of equal coverages the first is the primary road's
   pub equal-coverage : greater (covered 0 5) (covered 1 5) ≡ covered 0 5
