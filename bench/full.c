@@ -75,13 +75,13 @@ static size_t make(uint8_t *b, int hard) {
 
 enum { SLOTS = 1 << 15, LIST = (P + 4) * (N + 1) };
 
-static double real[N], penalised[N], key[SLOTS], cost[SLOTS], coverage[LIST], lengths[LIST];
-static size_t came_from[N], route[N + 1], best_route[N + 1], node[SLOTS], order[SLOTS], covered[LIST];
+static double labels[2 * N], entries[2 * SLOTS], coverage[LIST], lengths[LIST];
+static size_t came_from[N], route[N + 1], best_route[N + 1], links[2 * SLOTS], covered[LIST];
 static uint64_t ids[LIST];
 
 static HemokatuAnswered decode(const uint8_t *b, size_t len) {
-    return hemokatu_decode(b, len, real, N, penalised, N, came_from, N, route, N + 1, best_route, N + 1, key, SLOTS, cost, SLOTS, node, SLOTS,
-                           order, SLOTS, covered, LIST, coverage, LIST, ids, LIST, lengths, LIST);
+    return hemokatu_decode(b, len, labels, 2 * N, came_from, N, route, N + 1, best_route, N + 1, entries, 2 * SLOTS, links, 2 * SLOTS, covered,
+                           LIST, coverage, LIST, ids, LIST, lengths, LIST);
 }
 
 typedef struct {

@@ -33,7 +33,7 @@ static int zero_from(const Lent *c, int list, size_t from) {
 
 static int has_room(const Lent *c) {
     for (int i = 0; i < AREAS; i++) {
-        size_t least = i <= CAME_FROM ? need.node : i <= BEST_ROUTE ? need.route : i <= ORDER ? need.heap_least : need.list;
+        size_t least = i == LABELS ? 2 * need.node : i == CAME_FROM ? need.node : i <= BEST_ROUTE ? need.route : i <= LINKS ? 2 * need.heap_least : need.list;
         if (c->entries[i] < least) return 0;
     }
     return 1;

@@ -4,10 +4,10 @@
 #include <string.h>
 
 #define SLICES                                                                                                                   \
-    const uint8_t *sheet, size_t sheet_len, double *real, size_t real_len, double *penalised, size_t penalised_len, size_t *came_from,  \
-        size_t came_from_len, size_t *route, size_t route_len, size_t *best_route, size_t best_route_len, double *key, size_t key_len,  \
-        double *cost, size_t cost_len, size_t *node, size_t node_len, size_t *order, size_t order_len, size_t *covered,                 \
-        size_t covered_len, double *coverage, size_t coverage_len, uint64_t *ids, size_t ids_len, double *lengths, size_t lengths_len
+    const uint8_t *sheet, size_t sheet_len, double *labels, size_t labels_len, size_t *came_from, size_t came_from_len, size_t *route,  \
+        size_t route_len, size_t *best_route, size_t best_route_len, double *entries, size_t entries_len, size_t *links,                \
+        size_t links_len, size_t *covered, size_t covered_len, double *coverage, size_t coverage_len, uint64_t *ids, size_t ids_len,    \
+        double *lengths, size_t lengths_len
 
 HemokatuAnswered __real_hemokatu_decode(SLICES);
 HemokatuAnswered __wrap_hemokatu_decode(SLICES);
@@ -41,15 +41,15 @@ static void tell(HemokatuAnswered *r, double old) {
 
 // faults of memory and of the lists
 HemokatuAnswered __wrap_hemokatu_decode(SLICES) {
-    double old = real_len ? real[0] : 0;
-    HemokatuAnswered r = __real_hemokatu_decode(sheet, sheet_len, real, real_len, penalised, penalised_len, came_from, came_from_len, route, route_len,
-                                                best_route, best_route_len, key, key_len, cost, cost_len, node, node_len, order, order_len, covered,
-                                                covered_len, coverage, coverage_len, ids, ids_len, lengths, lengths_len);
+    double old = labels_len ? labels[0] : 0;
+    HemokatuAnswered r = __real_hemokatu_decode(sheet, sheet_len, labels, labels_len, came_from, came_from_len, route, route_len, best_route,
+                                                best_route_len, entries, entries_len, links, links_len, covered, covered_len, coverage,
+                                                coverage_len, ids, ids_len, lengths, lengths_len);
     int matched = r.number == HEMOKATU_MATCHED;
-    if (is("real-one-before") && matched) real[-1] = 0;
+    if (is("labels-one-before") && matched) labels[-1] = 0;
     if (is("route-one-behind") && matched) route[route_len] = 0;
     if (is("best-route-one-behind") && matched) best_route[best_route_len] = 1;
-    if (is("order-read-behind") && matched) seen = (uint8_t)order[order_len];
+    if (is("links-read-behind") && matched) seen = (uint8_t)links[links_len];
     if (is("coverage-read-before") && matched) seen = (uint8_t)((uint64_t *)coverage)[-1];
     if (is("ids-one-before") && matched) ids[-1] = 0;
     if (is("lengths-one-behind") && matched) lengths[lengths_len] = 0;

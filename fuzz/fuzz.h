@@ -42,14 +42,14 @@ size_t damage(uint8_t *b, size_t len, size_t room);
 
 // ---- areas.c: memory between pages that fault
 
-enum { REAL, PENALISED, CAME_FROM, ROUTE, BEST_ROUTE, KEY, COST, NODE, ORDER, COVERED, COVERAGE, IDS, LENGTHS, AREAS };
+enum { LABELS, CAME_FROM, ROUTE, BEST_ROUTE, ENTRIES, LINKS, COVERED, COVERAGE, IDS, LENGTHS, AREAS };
 
 // What is lent in one call. Each slice touches a page that faults, behind it or before it.
 typedef struct {
     const uint8_t *sheet; // a mapping that can only be read
     size_t sheet_len;
     void *at[AREAS];
-    size_t entries[AREAS];
+    size_t entries[AREAS]; // the numbers of each slice
 } Lent;
 
 void make_rooms(void);

@@ -41,24 +41,18 @@ extern "C" {
     fn hemokatu_decode(
         sheet: *const u8,
         sheet_len: usize,
-        real: *mut f64,
-        real_len: usize,
-        penalised: *mut f64,
-        penalised_len: usize,
+        labels: *mut f64,
+        labels_len: usize,
         came_from: *mut usize,
         came_from_len: usize,
         route: *mut usize,
         route_len: usize,
         best_route: *mut usize,
         best_route_len: usize,
-        key: *mut f64,
-        key_len: usize,
-        cost: *mut f64,
-        cost_len: usize,
-        node: *mut usize,
-        node_len: usize,
-        order: *mut usize,
-        order_len: usize,
+        entries: *mut f64,
+        entries_len: usize,
+        links: *mut usize,
+        links_len: usize,
         covered: *mut usize,
         covered_len: usize,
         coverage: *mut f64,
@@ -87,8 +81,8 @@ const GUARD: usize = 8;
 /// The areas. What a call leaves in the work areas stays there for the next one.
 #[derive(Default)]
 pub struct Port {
-    floats: [Vec<f64>; 5],
-    numbers: [Vec<usize>; 6],
+    floats: [Vec<f64>; 3],
+    numbers: [Vec<usize>; 5],
     ids: Vec<u64>,
     lengths: Vec<f64>,
 }
@@ -98,6 +92,11 @@ fn grow<T: Clone>(area: &mut Vec<T>, size: usize, filler: T) -> *mut T {
         area.resize(size, filler);
     }
     area.as_mut_ptr()
+}
+
+/// The numbers of a slice of two halves with so many entries each: twice the lesser, and an odd number where they differ.
+fn halves(a: usize, b: usize) -> usize {
+    2 * a.min(b) + usize::from(a != b)
 }
 
 impl Port {
@@ -132,31 +131,28 @@ impl Port {
     }
 
     fn decode(&mut self, sheet: &[u8], size: &[usize; 13]) -> Answered {
-        let [real, penalised, key, cost, coverage] = &mut self.floats;
-        let [came_from, route, best_route, node, order, covered] = &mut self.numbers;
+        let [labels, entries, coverage] = &mut self.floats;
+        let [came_from, route, best_route, links, covered] = &mut self.numbers;
+        let label_count = halves(size[0], size[1]);
+        let entry_count = halves(size[5], size[6]);
+        let link_count = halves(size[7], size[8]);
         // Each area has at least the entries that are lent, and no call overlaps two.
         unsafe {
             hemokatu_decode(
                 sheet.as_ptr(),
                 sheet.len(),
-                grow(real, size[0], f64::NAN),
-                size[0],
-                grow(penalised, size[1], -1.0),
-                size[1],
+                grow(labels, label_count, f64::NAN),
+                label_count,
                 grow(came_from, size[2], 1),
                 size[2],
                 grow(route, size[3], usize::MAX),
                 size[3],
                 grow(best_route, size[4], 3),
                 size[4],
-                grow(key, size[5], f64::NEG_INFINITY),
-                size[5],
-                grow(cost, size[6], f64::NAN),
-                size[6],
-                grow(node, size[7], usize::MAX),
-                size[7],
-                grow(order, size[8], usize::MAX),
-                size[8],
+                grow(entries, entry_count, f64::NEG_INFINITY),
+                entry_count,
+                grow(links, link_count, usize::MAX),
+                link_count,
                 grow(covered, size[9], 0),
                 size[9],
                 grow(coverage, size[10], 1e300),

@@ -1,4 +1,4 @@
-//! The sizes of the thirteen lent areas, in the order of the call.
+//! The sizes of the lent areas in the order of the call, each half of an area of two halves for itself.
 
 #[derive(Debug, Clone, Copy, PartialEq, Eq)]
 pub struct Areas(pub [usize; 13]);
