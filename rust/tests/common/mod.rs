@@ -3,36 +3,11 @@
 
 pub mod cases;
 
-use hemokatu::{Kind, Match, PathEntry, Point, Refusal, Road, Row, SheetBuilder};
+use hemokatu::{Kind, PathEntry, Point, Road, Row, SheetBuilder};
 
 pub fn sample(name: &str) -> Vec<u8> {
     let path = format!("{}/../sheets/{name}.sheet", env!("CARGO_MANIFEST_DIR"));
     std::fs::read(path).unwrap()
-}
-
-/// An answer as the list program prints it.
-pub fn text(answer: &Result<Match<'_>, Refusal>) -> String {
-    let m = match answer {
-        Ok(m) => m,
-        Err(refusal) => {
-            let (a, b) = refusal.places();
-            return format!("refused {} {a} {b}\n", refusal.number());
-        }
-    };
-    let mut text = format!("path {}\n", m.ids.len());
-    for (id, length) in m.roads() {
-        text += &format!("road {id} {:016x}\n", length.to_bits());
-    }
-    let bits = |v: f64| format!("{:016x}", v.to_bits());
-    text += &format!("length {}\n", bits(m.length_m));
-    text += &format!(
-        "start {} {}\n",
-        bits(m.start_offset),
-        bits(m.start_fraction)
-    );
-    text += &format!("end {} {}\n", bits(m.end_offset), bits(m.end_fraction));
-    text += &format!("primary {} {}\n", m.primary, bits(m.coverage));
-    text
 }
 
 /// A road of class 3, form of way 3.
@@ -44,24 +19,24 @@ pub fn road(id: u64, length_m: f64, source: usize, target: usize) -> Road {
         target,
         frc: 3,
         fow: 3,
-        access: false,
+        ..Road::default()
     }
 }
 
 /// On a road of 100 m.
-pub fn row(road: usize, along: f64) -> Row {
+pub fn row(road: usize, along_m: f64) -> Row {
     Row {
         road,
-        distance: 0.0,
-        bearing: 90.0,
-        along,
-        line: 100.0,
+        distance_m: 0.0,
+        bearing_deg: 90.0,
+        along_m,
+        line_length_m: 100.0,
     }
 }
 
 pub fn point(rows: Vec<Row>) -> Point {
     Point {
-        bearing: 90,
+        bearing_deg: 90,
         frc: 3,
         fow: 3,
         path: None,
@@ -69,9 +44,9 @@ pub fn point(rows: Vec<Row>) -> Point {
     }
 }
 
-pub fn point_to_next(dnp: f64, rows: Vec<Row>) -> Point {
+pub fn point_to_next(dnp_m: f64, rows: Vec<Row>) -> Point {
     Point {
-        path: Some(PathEntry { limit: 3, dnp }),
+        path: Some(PathEntry { lfrcnp: 3, dnp_m }),
         ..point(rows)
     }
 }
