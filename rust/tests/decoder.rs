@@ -2,7 +2,8 @@
 
 mod common;
 
-use common::{chain, misleading, s1, sample};
+use common::samples::misleading;
+use common::{chain, s1, sample};
 use hemokatu::{list_text, Decoder, Match, Metrics, Refusal, Sizes};
 
 fn send<T: Send + 'static>() {}

@@ -2,6 +2,10 @@
 #![allow(dead_code)]
 
 pub mod cases;
+#[path = "../../examples/samples/plane.rs"]
+pub mod plane;
+#[path = "../../examples/samples/sheets.rs"]
+pub mod samples;
 
 use hemokatu::{Kind, PathEntry, Point, Road, Row, SheetBuilder};
 
@@ -89,40 +93,5 @@ pub fn chain(roads: usize) -> SheetBuilder {
     sheet.point(point_to_next(dnp, vec![row(0, 50.0)]));
     sheet.point(point(vec![row(roads - 1, 50.0)]));
     without_distances(&mut sheet, roads + 1);
-    sheet
-}
-
-/// A search that opens a node 2 to the `turns` times: at each of `turns` nodes the shorter of two ways on seems so far
-/// from the goal that it is tried last, after everything behind the longer one.
-///
-/// ```text
-///  entry → 0 ──────→ 1 ──────→ 2 ─ … ─ turns      the longer way: 1 + 2^(turns - 1 - i) metres
-///          ├─→ side ─┘├─→ side ─┘                  the shorter way: 1 metre in two roads
-///          └──── the way to the goal, longer than all of it ────→ goal → exit
-/// ```
-pub fn misleading(turns: usize) -> SheetBuilder {
-    let side = |i: usize| turns + 1 + i;
-    let [goal, entry, exit] = [0, 1, 2].map(|i| 2 * turns + 1 + i);
-    let nodes = 2 * turns + 4;
-    let mut sheet = SheetBuilder::new(Kind::Line, nodes);
-    let reach = (turns + (1 << turns)) as f64 + 1.0;
-    let way = reach * (turns + 2) as f64;
-    sheet.road(road(700, 100.0, entry, 0));
-    sheet.road(road(701, way, 0, goal));
-    sheet.road(road(702, 100.0, goal, exit));
-    for i in 0..turns {
-        let more = (1 << (turns - 1 - i)) as f64;
-        sheet.road(road(1, 1.0 + more, i, i + 1));
-        sheet.road(road(2, 0.5, i, side(i)));
-        sheet.road(road(3, 0.5, side(i), i + 1));
-    }
-    sheet.point(point_to_next(way + 100.0, vec![row(0, 50.0)]));
-    sheet.point(point(vec![row(2, 50.0)]));
-    without_distances(&mut sheet, nodes);
-    let mut seems = vec![0.0; nodes];
-    for i in 0..turns {
-        seems[side(i)] = reach * (turns - i) as f64;
-    }
-    sheet.goal(goal, seems);
     sheet
 }
