@@ -1,0 +1,174 @@
+#!/bin/sh
+# Tries the commands with a faked rt: try.sh. Needs cc, and HEMOKATU_LIB must name a folder with libhemokatu.a.
+# The fake proves nothing: it prints rt's lines, and its list program is the C host with --list.
+# Prints a line for each thing tried; the last is `N tried, M wrong`. Ends with 0 if none is wrong.
+set -u
+here=$(dirname -- "$(dirname -- "$(realpath -- "$0")")")
+library=$(realpath -- "${HEMOKATU_LIB:?must name a folder with libhemokatu.a}")/libhemokatu.a
+[ -r "$library" ] || { echo "no $library" >&2; exit 2; }
+unset HEMOKATU_LIB
+# another user must reach it
+room=$(mktemp -d) || exit 2
+chmod 755 "$room"
+trap 'chmod -R u+w "$room"; rm -rf "$room"' EXIT
+
+clone="$room/a clone"
+mkdir "$clone" "$room/bin" "$room/else where"
+(cd "$here" && tar cf - --exclude=./target --exclude=./rust/target --exclude=./harness/target --exclude=./.git .) | (cd "$clone" && tar xf -)
+cc -std=c11 -O2 -o "$room/desk" "$here/examples/desk.c" "$library" || exit 2
+cp "$library" "$room/libhemokatu.a"
+cat >"$room/bin/rt" <<END
+#!/bin/sh
+echo "\$*" >>"$room/calls"
+[ ! -e "$room/fails" ] || { echo "rt: model NOT PROVED (exit 1, 3 s)"; echo "rt: FAILED: model"; exit 1; }
+case "\$1 \$2" in
+"check roadlist")
+    echo "fn model::one: proved"
+    echo "rt: model proved (1 s)"
+    sleep 1
+    echo "rt: decoder proved (1 s)"
+    sleep 1
+    echo "rt: roadlist proved (0 s)"
+    mkdir -p target/bin
+    printf '#!/bin/sh\nexec "%s" --list -\n' "$room/desk" >target/bin/roadlist
+    chmod +x target/bin/roadlist
+    echo "rt: roadlist ran, and wrote what its file 'stdout' has (0 s)" ;;
+"staticlib hemokatu")
+    echo "rt: hemokatu proved (1 s)"
+    mkdir -p target/staticlib
+    cp "$room/libhemokatu.a" target/staticlib ;;
+"ci ")
+    rm -rf target
+    echo "rt: model proved (1 s)"
+    echo "rt: ok, all proved"
+    cat "$room/tally" ;;
+*) exit 2 ;;
+esac
+END
+chmod +x "$room/bin/rt"
+PATH=$room/bin:$PATH
+calls() { cat "$room/calls" 2>/dev/null | wc -l; }
+
+tried=0 wrong=0
+# Runs a command and holds its status, a text on its standard output and one on its standard error to what is expected.
+try() { # NAME STATUS OUT ERR WORD...
+    name=$1 status=$2 out=$3 err=$4
+    shift 4
+    "$@" >"$room/out" 2>"$room/err" <"${input:-/dev/null}"
+    got=$?
+    tried=$((tried + 1))
+    if [ "$got" -eq "$status" ] && holds "$room/out" "$out" && holds "$room/err" "$err"; then
+        echo "ok: $name"
+    else
+        wrong=$((wrong + 1))
+        echo "WRONG: $name: status $got, not $status, or '$out' or '$err' is not there:"
+        sed 's/^/    /' "$room/out" "$room/err"
+    fi
+}
+holds() { # FILE TEXT; an empty text is that of an empty file
+    if [ -z "$2" ]; then [ ! -s "$1" ]; else grep -qF -- "$2" "$1"; fi
+}
+# So many calls of rt up to now.
+called() { # NAME COUNT
+    tried=$((tried + 1))
+    if [ "$(calls)" -eq "$2" ]; then echo "ok: $1"; else wrong=$((wrong + 1)); echo "WRONG: $1: $(calls) calls of rt, not $2"; fi
+}
+
+cd "$room/else where" || exit 2
+d="$clone/decode.sh"
+# arguments, before anything is built
+try 'help' 0 'usage: decode.sh' '' "$d" --help
+try 'an option that is not there' 2 '' 'no such option: --fast' "$d" --fast
+try 'two sheets' 2 '' 'one sheet at a time' "$d" a b
+try 'no such file' 2 '' 'x y.sheet: there is no such file' "$d" 'x y.sheet'
+try 'a folder' 2 '' 'a folder, not a sheet' "$d" "$clone/sheets"
+try 'an empty name' 2 '' 'there is no such file' "$d" ''
+called 'nothing was built' 0
+touch "$room/fails"
+try 'a build that fails' 2 '' 'rt check roadlist failed; target/check.log' "$d"
+try 'what failed is said' 2 '' 'model NOT PROVED' "$d"
+rm "$room/fails" "$room/calls"
+# progress
+try 'a fresh clone' 0 'primary 700 4049000000000000' 'about ten minutes on two cores' "$d"
+try 'and another time' 0 'path 1' '' "$d"
+called 'built once' 1
+touch "$clone/crates.txt"
+try 'sources that are newer' 0 'path 1' 'decoder proved (1 s), 1 s in all; the rest took 1 s last time' "$d"
+called 'built again' 2
+# sheets
+for sheet in "$clone"/sheets/*.sheet; do
+    name=$(basename "$sheet" .sheet)
+    case $name in
+    refused_6 | refused_11) continue ;; # the areas of the faked list program are larger
+    esac
+    read -r first <"$clone/sheets/$name.answer"
+    case $first in path*) status=0 ;; *) status=1 ;; esac
+    try "sample $name" $status "$first" '' "$d" "$sheet"
+done
+cp "$clone/sheets/s2.sheet" 'my sheet.sheet'
+cp "$clone/sheets/s2.sheet" ./-s2
+try 'a path with a space' 1 'refused 10 0 1' '' "$d" 'my sheet.sheet'
+try 'a name that begins with -' 1 'refused 10 0 1' '' "$d" -- -s2
+input="$clone/sheets/s1.sheet"
+try 'standard input' 0 'path 1' '' "$d" -
+input="$clone/sheets/s4.sheet"
+try 'a device' 1 'refused 8 0 0' '' "$d" /dev/stdin
+input=
+try 'no bytes' 1 'refused 1 0 0' '' "$d" -
+ln -s "$d" link
+ln -s "$room/else where/link" "$room/second link"
+try 'a link' 0 'path 1' '' ./link
+try 'a link to a link' 0 'path 1' '' "$room/second link"
+try 'another shell' 0 'path 1' '' sh "$d"
+# large sheets
+head -c 49152 /dev/zero >most.sheet
+head -c 49153 /dev/zero >large.sheet
+try '48 KiB' 1 'refused 3 0 0' '' "$d" most.sheet
+try 'above 48 KiB' 1 'refused 3 0 0' '49153 bytes are above the 48 KiB of the list program; examples/desk.sh' "$d" large.sheet
+input=/dev/zero
+try 'without end' 1 'refused 3 0 0' '8606253 bytes are above' "$d" -
+input=
+# the host in C
+h="$clone/examples/desk.sh"
+before=$(calls)
+try 'desk: help' 0 'usage: desk.sh' '' "$h" --help
+try 'desk: no such file' 2 '' 'there is no such file' "$h" nothing
+try 'desk: in words' 0 'road 700, 100.0 m' '' "$h"
+try 'desk: a refusal' 1 'no path from point 0 to point 1' '' "$h" 'my sheet.sheet'
+try 'desk: as a list' 0 'length 4049000000000000' '' "$h" --list "$clone/sheets/s1.sheet"
+try 'desk: what the list program refuses' 0 'path 62' '' "$h" --list "$clone/sheets/refused_6.sheet"
+try 'desk: a heap that grows' 0 'road 701' '' "$h" "$clone/sheets/refused_11.sheet"
+called 'desk: nothing is built again' "$before"
+stamp=$(stat -c %Y "$clone/target/examples/desk")
+sleep 1
+try 'desk: still there' 0 'road 700' '' "$h"
+[ "$stamp" = "$(stat -c %Y "$clone/target/examples/desk")" ] || { wrong=$((wrong + 1)); echo 'WRONG: desk was built again'; }
+mkdir 'a lib'
+cp "$library" 'a lib'
+try 'desk: HEMOKATU_LIB' 0 'road 700' '' env HEMOKATU_LIB="$room" "$h"
+try 'desk: HEMOKATU_LIB, relative' 0 'road 700' '' env HEMOKATU_LIB='a lib' "$h"
+try 'desk: HEMOKATU_LIB, empty' 0 'road 700' '' env HEMOKATU_LIB= "$h"
+try 'desk: HEMOKATU_LIB without a library' 2 '' "and there is no $room/else where/nothing/libhemokatu.a" env HEMOKATU_LIB=nothing "$h"
+# a clone that is only read, as another user
+chmod -R a+rX "$room"
+if [ "$(id -u)" = 0 ]; then
+    as() { setpriv --reuid=65534 --regid=65534 --clear-groups "$@"; }
+else
+    as() { "$@"; }
+    chmod -R a-w "$clone"
+fi
+try 'read only: decode.sh' 0 'path 1' '' as "$d"
+try 'read only: a large sheet' 1 'refused 3 0 0' 'examples/desk.sh' as "$d" large.sheet
+try 'read only: desk.sh' 0 'road 700' '' as "$h"
+try 'read only: another library' 0 'road 700' '' as env HEMOKATU_LIB=../ "$h"
+touch "$clone/crates.txt"
+try 'read only: an older list program' 0 'path 1' 'it is used as it is' as "$d"
+rm -r "$clone/target/bin"
+try 'read only: no list program' 2 '' "$clone/target cannot be written to build it" as "$d"
+chmod -R u+w "$clone"
+# no rt
+PATH=$(printf %s "$PATH" | sed "s|^$room/bin:||") && mkdir -p "$room/few" && for c in sh cat dirname realpath find mktemp rm head wc touch mkdir sed env cc; do ln -sf "$(command -v $c)" "$room/few/$c"; done
+try 'without rt' 2 '' "the toolchain's rt is not on the path to build it" env PATH="$room/few" "$d"
+
+echo "$tried tried, $wrong wrong"
+[ "$wrong" -eq 0 ]
