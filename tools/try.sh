@@ -1,5 +1,7 @@
 #!/bin/sh
+# shellcheck disable=SC2016,SC2086
 # Tries the commands with a faked rt: try.sh. Needs cc, and HEMOKATU_LIB must name a folder with libhemokatu.a.
+# What hosts do with a release is tried with pkg-config, cmake and cargo, where they are there.
 # The fake proves nothing: it prints rt's lines, and its list program is the C host with --list.
 # Prints a line for each thing tried; the last is `N tried, M wrong`. Ends with 0 if none is wrong.
 set -u
@@ -47,7 +49,8 @@ esac
 END
 chmod +x "$room/bin/rt"
 PATH=$room/bin:$PATH
-calls() { cat "$room/calls" 2>/dev/null | wc -l; }
+[ "$(command -v rt)" = "$room/bin/rt" ] || exit 2
+calls() { if [ -e "$room/calls" ]; then wc -l <"$room/calls"; else echo 0; fi; }
 
 tried=0 wrong=0
 # Runs a command and holds its status, a text on its standard output and one on its standard error to what is expected.
@@ -149,7 +152,79 @@ try 'desk: HEMOKATU_LIB' 0 'road 700' '' env HEMOKATU_LIB="$room" "$h"
 try 'desk: HEMOKATU_LIB, relative' 0 'road 700' '' env HEMOKATU_LIB='a lib' "$h"
 try 'desk: HEMOKATU_LIB, empty' 0 'road 700' '' env HEMOKATU_LIB= "$h"
 try 'desk: HEMOKATU_LIB without a library' 2 '' "and there is no $room/else where/nothing/libhemokatu.a" env HEMOKATU_LIB=nothing "$h"
-# a clone that is only read, as another user
+# a release
+r="$clone/tools/release.sh"
+echo '7 passed, 0 failed' >"$room/tally"
+try 'release: help' 0 'usage: release.sh' '' "$r" --help
+try 'release: no folder' 2 '' 'usage: release.sh' "$r"
+try 'release: a folder that is there' 2 '' 'is there already' "$r" .
+try 'release: made' 0 '' 'gate: 7 passed, 0 failed (run for this release)' "$r" 'a release'
+try 'release: whole' 0 'lib/libhemokatu.a: OK' '' sh -c 'cd "a release" && sha256sum -c SHA256SUMS'
+try 'release: nothing without a sum' 0 '' '' sh -c 'cd "a release" && find . -type f ! -name SHA256SUMS | while read -r f; do grep -qF "  ${f#./}" SHA256SUMS || echo "$f"; done'
+try 'release: what the gate said' 0 'rt ci, run for this release' '' cat 'a release/GATE.txt'
+try 'release: the licence' 0 'The Hemokatu authors' '' cat 'a release/LICENSE'
+for tally in '7 passed, 1 failed' '0 passed, 0 failed' 'rt: FAILED: model' ''; do
+    echo "$tally" >"$room/tally"
+    try "release: the gate says '$tally'" 1 '' 'the gate has not passed' "$r" none
+done
+try 'release: none was made' 2 '' 'No such file' ls none
+touch "$room/fails"
+try 'release: the gate fails' 1 '' 'rt ci ended with status 1' "$r" none
+rm "$room/fails"
+printf 'rt: ok\n12 passed, 0 failed\n' >kept
+before=$(grep -c '^ci' "$room/calls")
+try 'release: a kept output' 0 '' 'gate: 12 passed, 0 failed (kept output, taken as it was given)' "$r" --gate kept kept.release
+[ "$before" = "$(grep -c '^ci' "$room/calls")" ] || { wrong=$((wrong + 1)); echo 'WRONG: the gate was run all the same'; }
+touch -d '1 hour ago' kept
+try 'release: a kept output of other sources' 1 '' 'it is the output for other sources' "$r" --gate kept none
+try 'release: no such output' 2 '' 'nothing cannot be read' "$r" --gate nothing none
+# a host with the release, and without rt
+rm -r kept.release kept
+mv 'a release' "$room/hemokatu 0"
+cat >host.c <<'END'
+#include <hemokatu.h>
+#include <stdio.h>
+int main(void) {
+    printf("%d %u\n", HEMOKATU_VERSION, (unsigned)hemokatu_version());
+    return hemokatu_judge(0, 0).number != HEMOKATU_SHORT;
+}
+END
+number=$(sed -n 's/^#define HEMOKATU_VERSION //p' "$clone/include/hemokatu.h")
+if command -v pkg-config >/dev/null; then
+    try 'host: pkg-config' 0 "$number $number" '' env PKG_CONFIG_PATH="$room/hemokatu 0/lib/pkgconfig" sh -c 'eval cc -Wall -Wextra -pedantic -Werror -o host host.c $(pkg-config --cflags --libs hemokatu) && ./host'
+else
+    echo 'not tried: pkg-config'
+fi
+if command -v cmake >/dev/null; then
+    cat >CMakeLists.txt <<'END'
+cmake_minimum_required(VERSION 3.10)
+project(host C)
+find_package(hemokatu 0.2 REQUIRED)
+add_executable(host host.c)
+target_link_libraries(host PRIVATE hemokatu::hemokatu)
+END
+    try 'host: cmake' 0 "$number $number" '' sh -c 'cmake -S . -B built -DCMAKE_PREFIX_PATH="$1" >cmake.log && cmake --build built >>cmake.log && built/host' sh "$room/hemokatu 0"
+    sed -i 's/hemokatu 0.2/hemokatu 0.1/' CMakeLists.txt
+    try 'host: cmake, another version' 1 'Configuring incomplete' 'compatible' cmake -S . -B other -DCMAKE_PREFIX_PATH="$room/hemokatu 0"
+else
+    echo 'not tried: cmake'
+fi
+if command -v cargo >/dev/null; then
+    mkdir -p host/src host/lib
+    cp "$library" host/lib
+    printf '[package]\nname = "host"\nversion = "0.1.0"\nedition = "2021"\n[dependencies]\nhemokatu = { path = "%s/rust" }\n[workspace]\n' "$room/hemokatu 0" >host/Cargo.toml
+    echo 'fn main() { println!("{} {}", hemokatu::VERSION, hemokatu::library_version()); }' >host/src/main.rs
+    cargo="cargo run --quiet --offline -j1 --manifest-path host/Cargo.toml"
+    try 'host: cargo' 0 "$number $number" '' $cargo
+    try 'host: cargo, HEMOKATU_LIB' 0 "$number $number" '' env HEMOKATU_LIB="$room/hemokatu 0/lib" $cargo
+    try 'host: cargo, HEMOKATU_LIB relative' 0 "$number $number" '' env HEMOKATU_LIB=lib $cargo
+    try 'host: cargo, HEMOKATU_LIB without a library' 101 '' "which is taken from $room/else where/host, and there is no" env HEMOKATU_LIB=none $cargo
+else
+    echo 'not tried: cargo'
+fi
+# a clone that is only read, as another user; the gate has removed what was built
+try 'built again' 0 'path 1' 'proves the decoder first' "$d"
+try 'built again: desk.sh' 0 'road 700' '' "$h"
 chmod -R a+rX "$room"
 if [ "$(id -u)" = 0 ]; then
     as() { setpriv --reuid=65534 --regid=65534 --clear-groups "$@"; }
