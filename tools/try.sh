@@ -191,7 +191,7 @@ int main(void) {
 END
 number=$(sed -n 's/^#define HEMOKATU_VERSION //p' "$clone/include/hemokatu.h")
 if command -v pkg-config >/dev/null; then
-    try 'host: pkg-config' 0 "$number $number" '' env PKG_CONFIG_PATH="$room/hemokatu 0/lib/pkgconfig" sh -c 'eval cc -Wall -Wextra -pedantic -Werror -o host host.c $(pkg-config --cflags --libs hemokatu) && ./host'
+    try 'host: pkg-config' 0 "$number $number" '' env PKG_CONFIG_PATH="$room/hemokatu 0/lib/pkgconfig" sh -c 'eval cc -Wall -Wextra -pedantic -Werror -o linked host.c $(pkg-config --cflags --libs hemokatu) && ./linked'
 else
     echo 'not tried: pkg-config'
 fi
