@@ -5,6 +5,7 @@ use crate::network::judged;
 use crate::writer::Writer;
 use crate::{BuildError, Distances, Kind, Network, Point, Road, Row, Settings};
 use std::collections::{BTreeMap, BTreeSet};
+use std::ops::Deref;
 use std::sync::Arc;
 
 /// Lays out a sheet from roads, points with their rows, and distances.
@@ -43,25 +44,60 @@ use std::sync::Arc;
 pub struct SheetBuilder {
     kind: Kind,
     settings: Settings,
-    network: Arc<Network>,
+    network: Held,
     points: Vec<Point>,
     from_first: Vec<f64>,
     from_last: Vec<f64>,
     goals: BTreeMap<usize, Vec<f64>>,
 }
 
+/// The network of a sheet, its own or one that others hold too.
+#[derive(Debug, Clone)]
+enum Held {
+    Own(Network),
+    Shared(Arc<Network>),
+}
+
+impl Held {
+    /// Its own, copied if it was not.
+    fn own(&mut self) -> &mut Network {
+        if let Held::Shared(network) = self {
+            *self = Held::Own(Network::clone(network));
+        }
+        match self {
+            Held::Own(network) => network,
+            Held::Shared(_) => unreachable!("it was made its own"),
+        }
+    }
+}
+
+impl Deref for Held {
+    type Target = Network;
+
+    fn deref(&self) -> &Network {
+        match self {
+            Held::Own(network) => network,
+            Held::Shared(network) => network,
+        }
+    }
+}
+
 impl SheetBuilder {
     /// A sheet of this kind with so many nodes and the default settings, and nothing else yet.
     pub fn new(kind: Kind, nodes: usize) -> SheetBuilder {
-        SheetBuilder::over(kind, Network::new(nodes))
+        SheetBuilder::with(kind, Held::Own(Network::new(nodes)))
     }
 
     /// A sheet of this kind over a network, with the default settings, and nothing else yet.
     pub fn over(kind: Kind, network: impl Into<Arc<Network>>) -> SheetBuilder {
+        SheetBuilder::with(kind, Held::Shared(network.into()))
+    }
+
+    fn with(kind: Kind, network: Held) -> SheetBuilder {
         SheetBuilder {
             kind,
             settings: Settings::default(),
-            network: network.into(),
+            network,
             points: vec![],
             from_first: vec![],
             from_last: vec![],
@@ -84,13 +120,13 @@ impl SheetBuilder {
     }
 
     /// The network.
-    pub fn network(&self) -> &Arc<Network> {
+    pub fn network(&self) -> &Network {
         &self.network
     }
 
-    /// Adds a road, and gives its number: they count from 0. A network that others hold too is copied first.
+    /// Adds a road, and gives its number: they count from 0. A network from [`SheetBuilder::over`] is copied first.
     pub fn road(&mut self, road: Road) -> usize {
-        Arc::make_mut(&mut self.network).road(road)
+        self.network.own().road(road)
     }
 
     /// Adds a point behind the others, and gives its number.
@@ -99,9 +135,10 @@ impl SheetBuilder {
         self.points.len() - 1
     }
 
-    /// The order of the roads that leave a node: [`Network::leaving`]. A network that others hold too is copied first.
+    /// The order of the roads that leave a node: [`Network::leaving`]. A network from [`SheetBuilder::over`] is
+    /// copied first.
     pub fn leaving(&mut self, node: usize, roads: Vec<usize>) {
-        Arc::make_mut(&mut self.network).leaving(node, roads);
+        self.network.own().leaving(node, roads);
     }
 
     /// The metres from the first point to each node.

@@ -216,7 +216,7 @@ impl Counts {
         let points = settings + size(SETTINGS);
         let roads = points + size(POINT) * self.points;
         let lists = roads + size(ROAD) * self.roads;
-        let rows = lists + size(START) * (self.nodes + 1) + size(NUMBER) * self.roads;
+        let rows = roads + network_size(self.nodes, self.roads);
         let distances = rows + size(ROW) * self.rows;
         let total = distances + 2 * self.distances_size() + self.goal_size() * self.goals;
         Sections {
@@ -252,6 +252,11 @@ impl Sections {
             self.total,
         ]
     }
+}
+
+/// The bytes of the roads and the lists.
+pub fn network_size(nodes: usize, roads: usize) -> usize {
+    (size(ROAD) + size(NUMBER)) * roads + size(START) * (nodes + 1)
 }
 
 pub fn u32_at(bytes: &[u8], at: usize) -> Option<usize> {

@@ -8,8 +8,8 @@ use std::sync::OnceLock;
 
 /// Roads between nodes, and the order in which they leave them.
 ///
-/// It is laid out and checked once, when the first sheet over it is built or by [`Network::check`]; every sheet after
-/// that copies the bytes. [`SheetBuilder::over`](crate::SheetBuilder::over) takes it in an `Arc`, so threads can share it.
+/// It is laid out once, when the first sheet over it is built or by [`Network::check`]; every sheet after that copies the
+/// bytes. [`SheetBuilder::over`](crate::SheetBuilder::over) takes it in an `Arc`, so threads can share it.
 ///
 /// ```
 /// use hemokatu::{Decoder, Kind, Network, PathEntry, Point, Road, Row, SheetBuilder};
@@ -80,9 +80,22 @@ impl Network {
         &self.roads
     }
 
-    /// Lays the network out, unless that is done, and says what is wrong with it. A sheet over it says the same.
+    /// Says what is wrong with it, as every sheet over it would: it is laid out and judged on a sheet without points.
     pub fn check(&self) -> Result<(), BuildError> {
-        self.bytes().map(|_| ())
+        let network = self.bytes()?;
+        let counts = Counts {
+            kind: Kind::Line as usize,
+            points: 0,
+            nodes: self.nodes,
+            roads: self.roads.len(),
+            rows: 0,
+            goals: 0,
+        };
+        let mut writer = Writer::header(&counts, vec![]);
+        writer.settings(&Settings::default());
+        writer.laid_out(network);
+        writer.zeros(2 * counts.distances_size());
+        judged(&writer.bytes())
     }
 
     /// The bytes of the roads and the lists.
@@ -112,52 +125,47 @@ impl Network {
                 });
             }
         }
-        let lists = self.lists()?;
-        self.judged(&lists)
+        let (starts, numbers) = self.lists()?;
+        let mut writer = Writer::network(self.nodes, self.roads.len());
+        self.roads.iter().for_each(|road| writer.road(road));
+        starts.iter().for_each(|start| writer.number(*start));
+        numbers.iter().for_each(|road| writer.number(*road));
+        Ok(writer.bytes())
     }
 
-    /// The roads that leave each node, in their order.
-    fn lists(&self) -> Result<Vec<Vec<usize>>, BuildError> {
-        let mut lists = vec![vec![]; self.nodes];
-        for (number, road) in self.roads.iter().enumerate().rev() {
-            lists[road.source].push(number);
+    /// Where the roads of each node begin, and the roads that leave each node, in their order.
+    fn lists(&self) -> Result<(Vec<usize>, Vec<usize>), BuildError> {
+        let mut starts = vec![0; self.nodes + 1];
+        for road in &self.roads {
+            starts[road.source + 1] += 1;
+        }
+        for node in 0..self.nodes {
+            starts[node + 1] += starts[node];
+        }
+        // the newest is first, so each node's part is filled from its end
+        let mut ends = starts[1..].to_vec();
+        let mut numbers = vec![0; self.roads.len()];
+        for (number, road) in self.roads.iter().enumerate() {
+            ends[road.source] -= 1;
+            numbers[ends[road.source]] = number;
         }
         for (&node, given) in &self.leaving {
+            let part = match node < self.nodes {
+                true => &mut numbers[starts[node]..starts[node + 1]],
+                false => &mut [],
+            };
             let mut falling = given.clone();
             falling.sort_by(|a, b| b.cmp(a));
-            match lists.get_mut(node) {
-                Some(list) if *list == falling => list.clone_from(given),
-                list => {
-                    return Err(BuildError::Leaving {
-                        node,
-                        given: given.clone(),
-                        leave: list.map_or(vec![], |list| list.clone()),
-                    })
-                }
+            if node >= self.nodes || part != falling {
+                return Err(BuildError::Leaving {
+                    node,
+                    given: given.clone(),
+                    leave: part.to_vec(),
+                });
             }
+            part.copy_from_slice(given);
         }
-        Ok(lists)
-    }
-
-    /// The bytes, if they are well-formed on a sheet without points.
-    fn judged(&self, lists: &[Vec<usize>]) -> Result<Vec<u8>, BuildError> {
-        let counts = Counts {
-            kind: Kind::Line as usize,
-            points: 0,
-            nodes: self.nodes,
-            roads: self.roads.len(),
-            rows: 0,
-            goals: 0,
-        };
-        let begins = counts.sections();
-        let mut writer = Writer::header(&counts, vec![]);
-        writer.settings(&Settings::default());
-        self.roads.iter().for_each(|road| writer.road(road));
-        writer.lists(lists);
-        writer.zeros(2 * counts.distances_size());
-        let sheet = writer.bytes();
-        judged(&sheet)?;
-        Ok(sheet[begins.roads..begins.rows].to_vec())
+        Ok((starts, numbers))
     }
 }
 

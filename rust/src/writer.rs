@@ -1,6 +1,6 @@
 //! The bytes of a sheet, record by record.
 
-use crate::layout::{Counts, NO_PATH};
+use crate::layout::{network_size, Counts, NO_PATH};
 use crate::{Point, Road, Row, Settings};
 
 /// The fields of the records, in the order of the tables in layout.rs.
@@ -29,6 +29,11 @@ impl Writer {
             .for_each(|begin| writer.number(begin));
         writer.zeros(4);
         writer
+    }
+
+    /// Nothing yet, with room for so many nodes and roads.
+    pub fn network(nodes: usize, roads: usize) -> Writer {
+        Writer(Vec::with_capacity(network_size(nodes, roads)))
     }
 
     pub fn bytes(self) -> Vec<u8> {
@@ -95,16 +100,6 @@ impl Writer {
         bytes[20..24].copy_from_slice(&(r.target as u32).to_le_bytes());
         bytes[24..27].copy_from_slice(&[r.frc, r.fow, r.access as u8]);
         self.0.extend_from_slice(&bytes);
-    }
-
-    pub fn lists(&mut self, lists: &[Vec<usize>]) {
-        let mut start = 0;
-        self.number(start);
-        for list in lists {
-            start += list.len();
-            self.number(start);
-        }
-        lists.iter().flatten().for_each(|road| self.number(*road));
     }
 
     /// Roads and lists that are laid out.
