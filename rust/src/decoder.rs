@@ -74,6 +74,8 @@ impl Sizes {
 /// The areas grow to the largest sheet seen and are kept. What an earlier sheet left in them has no part in an answer.
 /// Decoders share nothing: a thread has its own.
 ///
+/// To make one panics over a library of another major or minor version, whose calls may be lent other areas.
+///
 /// A search needs a heap slot for each entry it makes. One that opens no node twice makes at most one entry for each road
 /// and one for the start, so the first heap has 4,097 slots; goal distances that mislead can have nodes opened again.
 /// If the heap is used up, it is doubled and the sheet decoded again, up to a limit of 1,048,576 slots (32 MiB); there
@@ -114,8 +116,6 @@ impl Decoder {
         Decoder::with(HEAP.min(heap_limit), heap_limit)
     }
 
-    /// # Panics
-    /// Over a library of another major or minor version: its calls may be lent other areas.
     fn with(heap: usize, heap_limit: usize) -> Decoder {
         let library = crate::library_version();
         assert!(

@@ -1,7 +1,8 @@
 //! Matches OpenLR references to roads, with a proof: the safe face of `libhemokatu.a`.
 //!
 //! A host measures a reference against its roads and hands everything over as one sheet of bytes. [`SheetBuilder`]
-//! lays a sheet out from its parts, [`Decoder`] answers it with a [`Match`] or a [`Refusal`].
+//! lays a sheet out from its parts, [`Decoder`] answers it with a [`Match`] or a [`Refusal`]. A [`Network`] is laid out
+//! once for many sheets; [`fields`] goes over what stands on one.
 //!
 //! ```
 //! use hemokatu::{Decoder, Refusal};
