@@ -50,11 +50,13 @@ fn named(folder: &Path) -> PathBuf {
 fn workspace() -> PathBuf {
     let out = std::env::var_os("OUT_DIR").map(PathBuf::from);
     let above = out.as_deref().into_iter().flat_map(Path::ancestors);
-    let locked = above.map(Path::to_path_buf).find(is_locked);
-    locked.unwrap_or(env!("CARGO_MANIFEST_DIR").into())
+    let locked = above.into_iter().find(|folder| is_locked(folder));
+    locked
+        .unwrap_or(Path::new(env!("CARGO_MANIFEST_DIR")))
+        .to_path_buf()
 }
 
-fn is_locked(folder: &PathBuf) -> bool {
+fn is_locked(folder: &Path) -> bool {
     folder.join("Cargo.lock").exists()
 }
 
