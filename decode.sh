@@ -50,7 +50,10 @@ large() { # BYTES
         "$root/examples/desk.sh" --list "$sheet"
     elif command -v cargo >/dev/null; then
         say "$above; rust/examples/list.rs decodes them"
-        cargo run --quiet --release --offline --manifest-path "$root/rust/Cargo.toml" --example list -- "$sheet"
+        take_library
+        # a clone that is only read
+        [ -w "$root/rust" ] || export CARGO_TARGET_DIR="${CARGO_TARGET_DIR:-$own/cargo}"
+        HEMOKATU_LIB=$(dirname -- "$library") cargo run --quiet --release --offline --manifest-path "$root/rust/Cargo.toml" --example list -- "$sheet"
     else
         say "$above; decoding them needs cc or cargo"
         exit 2
@@ -59,6 +62,7 @@ large() { # BYTES
 
 bytes=$(wc -c <"$sheet") || exit 2
 if [ "$bytes" -gt 49152 ]; then
+    make_own
     text=$(large "$bytes")
     status=$?
 else

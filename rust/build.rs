@@ -49,9 +49,9 @@ fn named(folder: &Path) -> PathBuf {
 /// The folder of the build's Cargo.lock, above the target folder; the crate's own where the target folder is elsewhere.
 fn workspace() -> PathBuf {
     let out = std::env::var_os("OUT_DIR").map(PathBuf::from);
-    let above = out.as_deref().into_iter().flat_map(Path::ancestors);
-    let locked = above.into_iter().find(|folder| is_locked(folder));
-    locked
+    let mut above = out.as_deref().into_iter().flat_map(Path::ancestors);
+    above
+        .find(|folder| is_locked(folder))
         .unwrap_or(Path::new(env!("CARGO_MANIFEST_DIR")))
         .to_path_buf()
 }
