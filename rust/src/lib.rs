@@ -39,6 +39,7 @@ mod layout;
 mod metrics;
 mod network;
 mod parts;
+mod reader;
 mod refusal;
 mod writer;
 
@@ -46,10 +47,11 @@ pub use answer::{list_text, Match};
 pub use build_error::{BuildError, Distances};
 pub use builder::SheetBuilder;
 pub use decoder::{judge, Decoder, Sizes};
-pub use field::{field_at, fields, Field, Part, Range, Value};
+pub use field::{Field, Part, Range, Value};
 pub use metrics::Metrics;
 pub use network::Network;
 pub use parts::{Kind, PathEntry, Point, Road, Row, Settings};
+pub use reader::{field_at, fields};
 pub use refusal::Refusal;
 
 /// The version of this crate, as the library gives its own: 10,000 major + 100 minor + patch.
