@@ -1,6 +1,8 @@
-// Decodes a sheet file and says the answer in words: desk FILE. Ends with 0 for a match, 1 for a refusal, 2 where the file cannot be read.
+// Decodes a sheet file and says the answer in words: desk FILE; desk --list FILE prints it as the list program does.
+// FILE may be -, for standard input. Ends with 0 for a match, 1 for a refusal, 2 where the file cannot be read.
 #include "../include/hemokatu.h"
 #include <inttypes.h>
+#include <stdbool.h>
 #include <stdio.h>
 #include <stdlib.h>
 #include <string.h>
@@ -8,27 +10,74 @@
 enum {
     NODES = HEMOKATU_MOST_NODES,
     ROUTE = NODES + 1,
-    HEAP = 4096,
-    LIST = (HEMOKATU_MOST_POINTS + 4) * (NODES + 1)
+    LIST = (HEMOKATU_MOST_POINTS + 4) * (NODES + 1),
+    HEAP = 4096,           // slots at first
+    MOST_HEAP = 1024 * 1024 // 32 MiB
 };
 
-// Room for every sheet there is, 828,048 bytes. A host with less asks hemokatu_sizes what its sheet needs.
+// Room for every sheet there is, 696,976 bytes, and the heap beside it. A host with less asks hemokatu_sizes what its
+// sheet needs.
 typedef struct {
     double real[NODES], penalised[NODES];
     size_t came_from[NODES];
     size_t route[ROUTE], best_route[ROUTE];
-    double key[HEAP], cost[HEAP];
-    size_t node[HEAP], order[HEAP];
     size_t covered[LIST];
     double coverage[LIST];
     uint64_t ids[LIST];
     double lengths[LIST];
 } Areas;
 
-static HemokatuAnswered decode(const uint8_t *sheet, size_t len, Areas *w) {
+// The four parts of a heap, in one piece of memory.
+typedef struct {
+    size_t slots;
+    double *key, *cost;
+    size_t *node, *order;
+} Heap;
+
+static bool heap_of(size_t slots, Heap *heap) {
+    double *key = malloc(slots * 2 * (sizeof(double) + sizeof(size_t)));
+    if (!key) return false;
+    size_t *node = (size_t *)(key + 2 * slots);
+    *heap = (Heap){slots, key, key + slots, node, node + slots};
+    return true;
+}
+
+static HemokatuAnswered decode_with(const uint8_t *sheet, size_t len, Areas *w, const Heap *h) {
     return hemokatu_decode(sheet, len, w->real, NODES, w->penalised, NODES, w->came_from, NODES, w->route, ROUTE, w->best_route, ROUTE,
-                           w->key, HEAP, w->cost, HEAP, w->node, HEAP, w->order, HEAP, w->covered, LIST, w->coverage, LIST,
-                           w->ids, LIST, w->lengths, LIST);
+                           h->key, h->slots, h->cost, h->slots, h->node, h->slots, h->order, h->slots, w->covered, LIST,
+                           w->coverage, LIST, w->ids, LIST, w->lengths, LIST);
+}
+
+// With a heap of twice the slots as long as a search uses it up. False where there is no memory.
+static bool decode(const uint8_t *sheet, size_t len, Areas *w, HemokatuAnswered *r) {
+    for (size_t slots = HEAP; slots <= MOST_HEAP; slots *= 2) {
+        Heap heap;
+        if (!heap_of(slots, &heap)) return false;
+        *r = decode_with(sheet, len, w, &heap);
+        free(heap.key);
+        if (r->number != HEMOKATU_HEAP_USED_UP) break;
+    }
+    return true;
+}
+
+static uint64_t bits(double x) {
+    uint64_t b;
+    memcpy(&b, &x, sizeof b);
+    return b;
+}
+
+// As the list program prints it: a line for each part, a double as its bits.
+static void print_list(const HemokatuAnswered *r, const Areas *w) {
+    if (r->number != HEMOKATU_MATCHED) {
+        printf("refused %zu %zu %zu\n", r->number, r->a, r->b);
+        return;
+    }
+    printf("path %zu\n", r->count);
+    for (size_t i = 0; i < r->count; i++) printf("road %" PRIu64 " %016" PRIx64 "\n", w->ids[i], bits(w->lengths[i]));
+    printf("length %016" PRIx64 "\n", bits(r->length_m));
+    printf("start %016" PRIx64 " %016" PRIx64 "\n", bits(r->start_offset), bits(r->start_fraction));
+    printf("end %016" PRIx64 " %016" PRIx64 "\n", bits(r->end_offset), bits(r->end_fraction));
+    printf("primary %" PRIu64 " %016" PRIx64 "\n", r->primary, bits(r->coverage));
 }
 
 // " (25.0 %)", and nothing for a part of a road of length 0
@@ -65,14 +114,14 @@ static void print_refusal(const HemokatuAnswered *r) {
     case HEMOKATU_NO_POINTS: puts("the line has no points"); break;
     case HEMOKATU_NO_CANDIDATE: printf("no road near point %zu fits it\n", r->a); break;
     case HEMOKATU_NO_PATH: printf("no path from point %zu to point %zu\n", r->a, r->b); break;
-    case HEMOKATU_HEAP_USED_UP: printf("a search from point %zu to point %zu needs more than %d heap entries\n", r->a, r->a + 1, HEAP); break;
+    case HEMOKATU_HEAP_USED_UP: printf("a search from point %zu to point %zu needs more than %d heap entries\n", r->a, r->a + 1, MOST_HEAP); break;
     default: puts("unknown"); break;
     }
 }
 
 // The bytes of a file and how many; no bytes where it cannot be read.
 static uint8_t *read_file(const char *name, size_t *len) {
-    FILE *f = fopen(name, "rb");
+    FILE *f = strcmp(name, "-") ? fopen(name, "rb") : stdin;
     if (!f) return NULL;
     uint8_t *bytes = malloc(1);
     size_t room = 1, got;
@@ -93,22 +142,35 @@ static uint8_t *read_file(const char *name, size_t *len) {
 }
 
 int main(int argc, char **argv) {
-    if (argc != 2) {
-        fputs("usage: desk FILE\n", stderr);
+    bool list = argc > 1 && !strcmp(argv[1], "--list");
+    if (argc != 2 + list) {
+        fputs("usage: desk [--list] FILE\n", stderr);
         return 2;
     }
+    if (hemokatu_version() / 100 != HEMOKATU_VERSION / 100) {
+        fprintf(stderr, "desk: the library has version %" PRIu32 ", and its header %d\n", hemokatu_version(), HEMOKATU_VERSION);
+        return 2;
+    }
+    const char *name = argv[1 + list];
     size_t len;
-    uint8_t *sheet = read_file(argv[1], &len);
+    uint8_t *sheet = read_file(name, &len);
     if (!sheet) {
-        perror(argv[1]);
+        perror(name);
         return 2;
     }
     Areas areas;
-    HemokatuAnswered r = decode(sheet, len, &areas);
-    if (r.number == HEMOKATU_MATCHED)
+    HemokatuAnswered r;
+    bool done = decode(sheet, len, &areas, &r);
+    free(sheet);
+    if (!done) {
+        fputs("desk: no memory for the heap\n", stderr);
+        return 2;
+    }
+    if (list)
+        print_list(&r, &areas);
+    else if (r.number == HEMOKATU_MATCHED)
         print_match(&r, &areas);
     else
         print_refusal(&r);
-    free(sheet);
     return r.number != HEMOKATU_MATCHED;
 }

@@ -15,6 +15,10 @@
 extern "C" {
 #endif
 
+/* The version of this header: 10000 major + 100 minor + patch. hemokatu_version gives the library's. Before 1.0 another
+ * minor version may lend other areas, so a host compares both without the patch before its first call. */
+#define HEMOKATU_VERSION 200
+
 /* The sheet, little-endian. Behind the header its sections follow without gaps in the order of their offsets; a record's
  * bytes that are named by none of its places are 0. Every f64 has its sign bit clear and is at most HEMOKATU_MOST_F64.
  * examples/s1.c writes a sheet by these constants. */
@@ -179,6 +183,9 @@ typedef struct {
     uint64_t primary;      /* the id of the road with the greatest coverage */
     double coverage;       /* the metres covered of it */
 } HemokatuAnswered;
+
+/* The version of the library, as HEMOKATU_VERSION is the header's. */
+uint32_t hemokatu_version(void);
 
 /* Refusals 1 to 5 of any bytes. */
 HemokatuJudgement hemokatu_judge(const uint8_t *sheet, size_t sheet_len);

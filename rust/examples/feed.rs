@@ -61,8 +61,8 @@ fn in_words(answer: Result<Match<'_>, Refusal>) -> String {
                 "{} m on {}, from {} m after its start to {} m before its end; primary road {}",
                 found.length_m,
                 roads.join(", "),
-                found.start_offset,
-                found.end_offset,
+                found.start_offset_m,
+                found.end_offset_m,
                 found.primary
             )
         }

@@ -1,10 +1,10 @@
 //! What can be wrong with the parts of a sheet.
 
-use crate::Refusal;
+use crate::{Field, Refusal};
 use std::fmt;
 
 /// Why parts make no well-formed sheet. Points, roads and nodes are counted from 0.
-#[derive(Debug, Clone, PartialEq, Eq)]
+#[derive(Debug, Clone, PartialEq)]
 #[non_exhaustive]
 pub enum BuildError {
     /// A count above its limit.
@@ -16,6 +16,15 @@ pub enum BuildError {
         /// How many there may be.
         most: usize,
     },
+    /// A point with too many rows.
+    TooManyRows {
+        /// The point.
+        point: usize,
+        /// How many it has.
+        count: usize,
+        /// How many it may have.
+        most: usize,
+    },
     /// A point along line has two points.
     NotTwoPoints {
         /// How many there are.
@@ -25,8 +34,12 @@ pub enum BuildError {
     RoadWithoutNode {
         /// The road.
         road: usize,
+        /// Its id.
+        id: u64,
         /// The node.
         node: usize,
+        /// How many nodes there are.
+        nodes: usize,
     },
     /// A row names a road that is not there.
     RowWithoutRoad {
@@ -34,6 +47,8 @@ pub enum BuildError {
         point: usize,
         /// The road.
         road: usize,
+        /// How many roads there are.
+        roads: usize,
     },
     /// Two rows of a point name one road.
     RowTwice {
@@ -46,6 +61,10 @@ pub enum BuildError {
     Leaving {
         /// The node.
         node: usize,
+        /// The roads given for it.
+        given: Vec<usize>,
+        /// Those that leave it, the newest first; none of a node that is not there.
+        leave: Vec<usize>,
     },
     /// A list of distances without one for each node.
     Distances {
@@ -60,18 +79,27 @@ pub enum BuildError {
     GoalWithoutNode {
         /// The goal.
         node: usize,
+        /// How many nodes there are.
+        nodes: usize,
     },
-    /// Distances to a goal are missing: a row after the first point's names a road that leaves this node.
+    /// Distances to a goal are missing.
     NoGoal {
         /// The node.
         node: usize,
+        /// A point after the first, with a row that needs them.
+        point: usize,
+        /// The road of that row; it leaves the node.
+        road: usize,
     },
-    /// What the judge refuses: a value out of its range.
+    /// A value out of its range.
+    Value {
+        /// The field, with its value and its range.
+        field: Field,
+    },
+    /// What the judge refuses otherwise. Parts that pass all of the above are not refused.
     Refused {
         /// The judge's refusal.
         refusal: Refusal,
-        /// The field at its place, in words.
-        field: Option<String>,
     },
 }
 
@@ -102,40 +130,51 @@ impl fmt::Display for BuildError {
             BuildError::TooMany { what, count, most } => {
                 write!(f, "{count} {what}, at most {most} are possible")
             }
+            BuildError::TooManyRows { point, count, most } => {
+                write!(
+                    f,
+                    "{count} rows of point {point}, at most {most} are possible"
+                )
+            }
             BuildError::NotTwoPoints { points } => {
                 write!(f, "a point along line has 2 points, not {points}")
             }
-            BuildError::RoadWithoutNode { road, node } => {
-                write!(f, "road {road} names node {node}, which is not there")
-            }
-            BuildError::RowWithoutRoad { point, road } => {
+            BuildError::RoadWithoutNode {
+                road,
+                id,
+                node,
+                nodes,
+            } => {
                 write!(
                     f,
-                    "a row of point {point} names road {road}, which is not there"
+                    "road {road} (id {id}) names node {node}, and there are {nodes} nodes"
+                )
+            }
+            BuildError::RowWithoutRoad { point, road, roads } => {
+                write!(
+                    f,
+                    "a row of point {point} names road {road}, and there are {roads} roads"
                 )
             }
             BuildError::RowTwice { point, road } => {
                 write!(f, "two rows of point {point} name road {road}")
             }
-            BuildError::Leaving { node } => {
-                write!(
-                    f,
-                    "the roads given for node {node} are not those that leave it, each once"
-                )
+            BuildError::Leaving { node, given, leave } => {
+                write!(f, "the roads given for node {node} are {given:?}, and those that leave it are {leave:?}")
             }
             BuildError::Distances { list, count, nodes } => {
                 write!(f, "{count} {list} for {nodes} nodes")
             }
-            BuildError::GoalWithoutNode { node } => {
-                write!(f, "goal node {node} is not there")
+            BuildError::GoalWithoutNode { node, nodes } => {
+                write!(f, "goal node {node} is not there, there are {nodes} nodes")
             }
-            BuildError::NoGoal { node } => {
-                write!(f, "the distances to goal node {node} are missing")
+            BuildError::NoGoal { node, point, road } => {
+                write!(f, "the distances to goal node {node} are missing: road {road} leaves it, and a row of point {point} names that road")
             }
-            BuildError::Refused { refusal, field } => match field {
-                Some(field) => write!(f, "{field} is out of range"),
-                None => refusal.fmt(f),
-            },
+            BuildError::Value { field } => {
+                write!(f, "{field} is {}, and may be {}", field.value, field.range)
+            }
+            BuildError::Refused { refusal } => refusal.fmt(f),
         }
     }
 }

@@ -1,13 +1,17 @@
 //! A sheet from its parts.
 
 use crate::layout::{self, Counts};
+use crate::network::judged;
 use crate::writer::Writer;
-use crate::{field_at, judge, BuildError, Distances, Kind, Point, Refusal, Road, Row, Settings};
+use crate::{BuildError, Distances, Kind, Network, Point, Road, Row, Settings};
 use std::collections::{BTreeMap, BTreeSet};
+use std::ops::Deref;
+use std::sync::Arc;
 
 /// Lays out a sheet from roads, points with their rows, and distances.
 ///
 /// Offsets, start positions, lists, the order of rows and the order of goals follow from the parts.
+/// For many references over the same roads, see [`Network`].
 ///
 /// ```text
 /// node 0 ───────── road 0, 100 m ─────────→ node 1
@@ -19,10 +23,10 @@ use std::collections::{BTreeMap, BTreeSet};
 /// use hemokatu::{Decoder, Kind, PathEntry, Point, Road, Row, SheetBuilder};
 ///
 /// let mut sheet = SheetBuilder::new(Kind::Line, 2);
-/// let road = sheet.road(Road { id: 700, length_m: 100.0, source: 0, target: 1, frc: 3, fow: 3, access: false });
-/// for (along, path) in [(25.0, Some(PathEntry { limit: 3, dnp: 50.0 })), (75.0, None)] {
-///     let row = Row { road, distance: 0.0, bearing: 90.0, along, line: 100.0 };
-///     sheet.point(Point { bearing: 90, frc: 3, fow: 3, path, rows: vec![row] });
+/// let road = sheet.road(Road { id: 700, length_m: 100.0, source: 0, target: 1, frc: 3, fow: 3, ..Road::default() });
+/// for (along_m, path) in [(25.0, Some(PathEntry { lfrcnp: 3, dnp_m: 50.0 })), (75.0, None)] {
+///     let row = Row { road, distance_m: 0.0, bearing_deg: 90.0, along_m, line_length_m: 100.0 };
+///     sheet.point(Point { bearing_deg: 90, frc: 3, fow: 3, path, rows: vec![row] });
 /// }
 /// // A host measures these; here all are 0.
 /// sheet.from_first(vec![0.0; 2]);
@@ -39,30 +43,75 @@ use std::collections::{BTreeMap, BTreeSet};
 #[derive(Debug, Clone)]
 pub struct SheetBuilder {
     kind: Kind,
-    nodes: usize,
     settings: Settings,
+    network: Held,
     points: Vec<Point>,
-    roads: Vec<Road>,
-    leaving: BTreeMap<usize, Vec<usize>>,
     from_first: Vec<f64>,
     from_last: Vec<f64>,
     goals: BTreeMap<usize, Vec<f64>>,
 }
 
+/// The network of a sheet, its own or one that others hold too.
+#[derive(Debug, Clone)]
+enum Held {
+    Own(Network),
+    Shared(Arc<Network>),
+}
+
+impl Held {
+    /// Its own, copied if it was not.
+    fn own(&mut self) -> &mut Network {
+        if let Held::Shared(network) = self {
+            *self = Held::Own(Network::clone(network));
+        }
+        match self {
+            Held::Own(network) => network,
+            Held::Shared(_) => unreachable!("it was made its own"),
+        }
+    }
+}
+
+impl Deref for Held {
+    type Target = Network;
+
+    fn deref(&self) -> &Network {
+        match self {
+            Held::Own(network) => network,
+            Held::Shared(network) => network,
+        }
+    }
+}
+
 impl SheetBuilder {
     /// A sheet of this kind with so many nodes and the default settings, and nothing else yet.
     pub fn new(kind: Kind, nodes: usize) -> SheetBuilder {
+        SheetBuilder::with(kind, Held::Own(Network::new(nodes)))
+    }
+
+    /// A sheet of this kind over a network, with the default settings, and nothing else yet.
+    pub fn over(kind: Kind, network: impl Into<Arc<Network>>) -> SheetBuilder {
+        SheetBuilder::with(kind, Held::Shared(network.into()))
+    }
+
+    fn with(kind: Kind, network: Held) -> SheetBuilder {
         SheetBuilder {
             kind,
-            nodes,
             settings: Settings::default(),
+            network,
             points: vec![],
-            roads: vec![],
-            leaving: BTreeMap::new(),
             from_first: vec![],
             from_last: vec![],
             goals: BTreeMap::new(),
         }
+    }
+
+    /// Begins another reference: network and settings stay, points and distances go.
+    pub fn restart(&mut self, kind: Kind) {
+        self.kind = kind;
+        self.points.clear();
+        self.from_first.clear();
+        self.from_last.clear();
+        self.goals.clear();
     }
 
     /// Other settings.
@@ -70,10 +119,14 @@ impl SheetBuilder {
         self.settings = settings;
     }
 
-    /// Adds a road, and gives its number: they count from 0.
+    /// The network.
+    pub fn network(&self) -> &Network {
+        &self.network
+    }
+
+    /// Adds a road, and gives its number: they count from 0. A network from [`SheetBuilder::over`] is copied first.
     pub fn road(&mut self, road: Road) -> usize {
-        self.roads.push(road);
-        self.roads.len() - 1
+        self.network.own().road(road)
     }
 
     /// Adds a point behind the others, and gives its number.
@@ -82,51 +135,61 @@ impl SheetBuilder {
         self.points.len() - 1
     }
 
-    /// The order of the roads that leave a node. A search takes them in this order, so it decides between equals.
-    /// Where it is not given the newest is first, as in the graph of the original decoder.
+    /// The order of the roads that leave a node: [`Network::leaving`]. A network from [`SheetBuilder::over`] is
+    /// copied first.
     pub fn leaving(&mut self, node: usize, roads: Vec<usize>) {
-        self.leaving.insert(node, roads);
+        self.network.own().leaving(node, roads);
     }
 
     /// The metres from the first point to each node.
-    pub fn from_first(&mut self, distances: Vec<f64>) {
-        self.from_first = distances;
+    pub fn from_first(&mut self, distances_m: Vec<f64>) {
+        self.from_first = distances_m;
     }
 
     /// The metres from the last point to each node.
-    pub fn from_last(&mut self, distances: Vec<f64>) {
-        self.from_last = distances;
+    pub fn from_last(&mut self, distances_m: Vec<f64>) {
+        self.from_last = distances_m;
     }
 
     /// The nodes to which distances are needed: each that a road leaves on which a point after the first may lie.
     pub fn goal_nodes(&self) -> Vec<usize> {
-        let rows = self.points.iter().skip(1).flat_map(|point| &point.rows);
-        let roads = rows.filter_map(|row| self.roads.get(row.road));
-        let nodes: BTreeSet<usize> = roads.map(|road| road.source).collect();
+        let nodes: BTreeSet<usize> = self.needed().map(|(node, _, _)| node).collect();
         nodes.into_iter().collect()
     }
 
     /// The metres to a goal node from each node.
-    pub fn goal(&mut self, node: usize, distances: Vec<f64>) {
-        self.goals.insert(node, distances);
+    pub fn goal(&mut self, node: usize, distances_m: Vec<f64>) {
+        self.goals.insert(node, distances_m);
     }
 
     /// The bytes, which are a well-formed sheet, or what is wrong with the parts.
     pub fn build(&self) -> Result<Vec<u8>, BuildError> {
+        let mut sheet = vec![];
+        self.build_into(&mut sheet)?;
+        Ok(sheet)
+    }
+
+    /// The same into a vector that a host keeps, in place of what it had. Empty after an error.
+    pub fn build_into(&self, sheet: &mut Vec<u8>) -> Result<(), BuildError> {
+        sheet.clear();
+        let network = self.network.bytes()?;
         self.check_counts()?;
-        self.check_numbers()?;
+        self.check_rows()?;
         self.check_distances()?;
         let rows = self.rows()?;
-        let lists = self.lists()?;
-        let sheet = self.write(&rows, &lists);
-        judge(&sheet).map_err(|refusal| BuildError::Refused {
-            refusal,
-            field: match refusal {
-                Refusal::Value { offset } => field_at(&sheet, offset),
-                _ => None,
-            },
-        })?;
-        Ok(sheet)
+        *sheet = self.write(network, &rows, std::mem::take(sheet));
+        judged(sheet).inspect_err(|_| sheet.clear())
+    }
+
+    /// The goal nodes that rows need, each with the point and the road of the row.
+    fn needed(&self) -> impl Iterator<Item = (usize, usize, usize)> + '_ {
+        let points = self.points.iter().enumerate().skip(1);
+        points.flat_map(move |(point, p)| {
+            p.rows.iter().filter_map(move |row| {
+                let road = self.network.roads().get(row.road)?;
+                Some((road.source, point, row.road))
+            })
+        })
     }
 
     fn row_count(&self) -> usize {
@@ -134,12 +197,14 @@ impl SheetBuilder {
     }
 
     fn check_counts(&self) -> Result<(), BuildError> {
-        let most_rows = self.points.iter().map(|p| p.rows.len()).max().unwrap_or(0);
+        for (point, p) in self.points.iter().enumerate() {
+            let (count, most) = (p.rows.len(), layout::MOST_ROWS_OF_POINT);
+            if count > most {
+                return Err(BuildError::TooManyRows { point, count, most });
+            }
+        }
         for (what, count, most) in [
             ("points", self.points.len(), layout::MOST_POINTS),
-            ("nodes", self.nodes, layout::MOST_NODES),
-            ("roads", self.roads.len(), layout::MOST_ROADS),
-            ("rows of a point", most_rows, layout::MOST_ROWS_OF_POINT),
             ("rows", self.row_count(), layout::MOST_ROWS),
             ("goals", self.goals.len(), layout::MOST_GOALS),
         ] {
@@ -154,17 +219,13 @@ impl SheetBuilder {
         }
     }
 
-    /// Roads name nodes that are there, and rows roads.
-    fn check_numbers(&self) -> Result<(), BuildError> {
-        for (road, r) in self.roads.iter().enumerate() {
-            if let Some(node) = [r.source, r.target].into_iter().find(|v| *v >= self.nodes) {
-                return Err(BuildError::RoadWithoutNode { road, node });
-            }
-        }
+    /// Rows name roads that are there.
+    fn check_rows(&self) -> Result<(), BuildError> {
+        let roads = self.network.roads().len();
         for (point, p) in self.points.iter().enumerate() {
-            if let Some(row) = p.rows.iter().find(|row| row.road >= self.roads.len()) {
+            if let Some(row) = p.rows.iter().find(|row| row.road >= roads) {
                 let road = row.road;
-                return Err(BuildError::RowWithoutRoad { point, road });
+                return Err(BuildError::RowWithoutRoad { point, road, roads });
             }
         }
         Ok(())
@@ -172,7 +233,7 @@ impl SheetBuilder {
 
     /// Every list of distances has one for each node, and no goal is missing.
     fn check_distances(&self) -> Result<(), BuildError> {
-        let nodes = self.nodes;
+        let nodes = self.network.nodes();
         let goals = self
             .goals
             .iter()
@@ -186,11 +247,11 @@ impl SheetBuilder {
             }
         }
         if let Some(&node) = self.goals.keys().find(|node| **node >= nodes) {
-            return Err(BuildError::GoalWithoutNode { node });
+            return Err(BuildError::GoalWithoutNode { node, nodes });
         }
-        let mut needed = self.goal_nodes().into_iter();
-        match needed.find(|node| !self.goals.contains_key(node)) {
-            Some(node) => Err(BuildError::NoGoal { node }),
+        let missing = self.needed().find(|need| !self.goals.contains_key(&need.0));
+        match missing {
+            Some((node, point, road)) => Err(BuildError::NoGoal { node, point, road }),
             None => Ok(()),
         }
     }
@@ -210,44 +271,26 @@ impl SheetBuilder {
         Ok(all)
     }
 
-    /// The roads that leave each node, in their order.
-    fn lists(&self) -> Result<Vec<Vec<usize>>, BuildError> {
-        let mut lists = vec![vec![]; self.nodes];
-        for (number, road) in self.roads.iter().enumerate().rev() {
-            lists[road.source].push(number);
-        }
-        for (&node, given) in &self.leaving {
-            let mut falling = given.clone();
-            falling.sort_by(|a, b| b.cmp(a));
-            match lists.get_mut(node) {
-                Some(list) if *list == falling => list.clone_from(given),
-                _ => return Err(BuildError::Leaving { node }),
-            }
-        }
-        Ok(lists)
-    }
-
-    fn write(&self, rows: &[Row], lists: &[Vec<usize>]) -> Vec<u8> {
+    fn write(&self, network: &[u8], rows: &[Row], into: Vec<u8>) -> Vec<u8> {
         let counts = Counts {
             kind: self.kind as usize,
             points: self.points.len(),
-            nodes: self.nodes,
-            roads: self.roads.len(),
+            nodes: self.network.nodes(),
+            roads: self.network.roads().len(),
             rows: rows.len(),
             goals: self.goals.len(),
         };
-        let mut writer = Writer::header(&counts);
+        let mut writer = Writer::header(&counts, into);
         writer.settings(&self.settings);
         self.points.iter().for_each(|point| writer.point(point));
-        self.roads.iter().for_each(|road| writer.road(road));
-        writer.lists(lists);
+        writer.laid_out(network);
         rows.iter().for_each(|row| writer.row(row));
-        writer.metres(&self.from_first);
-        writer.metres(&self.from_last);
+        writer.reals(&self.from_first);
+        writer.reals(&self.from_last);
         for (node, distances) in &self.goals {
             writer.number(*node);
             writer.zeros(4);
-            writer.metres(distances);
+            writer.reals(distances);
         }
         writer.bytes()
     }

@@ -1,8 +1,9 @@
 //! The call, with areas that grow to what a sheet needs.
 
+use crate::ffi::{self, Areas};
 use crate::layout::Counts;
 use crate::refusal::{Refusal, HEAP_USED_UP};
-use crate::{ffi, Match};
+use crate::{Match, Metrics, VERSION};
 use std::fmt;
 
 /// Refusals 1 to 5 of any bytes; Ok for a well-formed sheet. [`Decoder::decode`] judges by itself.
@@ -13,6 +14,7 @@ pub fn judge(sheet: &[u8]) -> Result<(), Refusal> {
 
 /// The entries that each area of a call has at the least. A [`Decoder`] sees to them.
 #[derive(Debug, Clone, Copy, PartialEq, Eq)]
+#[non_exhaustive]
 pub struct Sizes {
     /// Of each of the three node areas.
     pub node: usize,
@@ -72,14 +74,18 @@ impl Sizes {
 /// The areas grow to the largest sheet seen and are kept. What an earlier sheet left in them has no part in an answer.
 /// Decoders share nothing: a thread has its own.
 ///
+/// To make one panics over a library of another major or minor version, whose calls may be lent other areas.
+///
 /// A search needs a heap slot for each entry it makes. One that opens no node twice makes at most one entry for each road
 /// and one for the start, so the first heap has 4,097 slots; goal distances that mislead can have nodes opened again.
 /// If the heap is used up, it is doubled and the sheet decoded again, up to a limit of 1,048,576 slots (32 MiB); there
-/// it is [`Refusal::HeapUsedUp`].
+/// it is [`Refusal::HeapUsedUp`]. [`Decoder::shrink`] gives back what one large sheet has made it grow by.
 pub struct Decoder {
     areas: Areas,
     heap: usize,
+    first_heap: usize,
     heap_limit: usize,
+    metrics: Metrics,
 }
 
 const HEAP: usize = 4_097;
@@ -99,11 +105,7 @@ impl Decoder {
 
     /// A decoder whose heap has so many slots at first, 1 at the least.
     pub fn with_heap(slots: usize) -> Decoder {
-        Decoder {
-            areas: Areas::default(),
-            heap: slots.max(1),
-            heap_limit: slots.max(HEAP_LIMIT),
-        }
+        Decoder::with(slots.max(1), slots.max(HEAP_LIMIT))
     }
 
     /// A decoder whose heap never has more slots than this, 1 at the least.
@@ -111,10 +113,21 @@ impl Decoder {
     /// The limit bounds the time of a call too: a leg makes up to 100 searches, each of at most so many entries.
     pub fn with_heap_limit(slots: usize) -> Decoder {
         let heap_limit = slots.max(1);
+        Decoder::with(HEAP.min(heap_limit), heap_limit)
+    }
+
+    fn with(heap: usize, heap_limit: usize) -> Decoder {
+        let library = crate::library_version();
+        assert!(
+            library / 100 == VERSION / 100,
+            "libhemokatu.a has version {library}, and this crate is for {VERSION}: see HEMOKATU_LIB"
+        );
         Decoder {
             areas: Areas::default(),
-            heap: HEAP.min(heap_limit),
+            heap,
+            first_heap: heap,
             heap_limit,
+            metrics: Metrics::default(),
         }
     }
 
@@ -126,7 +139,7 @@ impl Decoder {
     ///
     /// let found = decoder.decode(&sheet)?;
     /// assert_eq!(found.roads().collect::<Vec<_>>(), [(700, 100.0)]);
-    /// assert_eq!((found.start_offset, found.end_offset), (25.0, 25.0));
+    /// assert_eq!((found.start_offset_m, found.end_offset_m), (25.0, 25.0));
     ///
     /// let refusal = decoder.decode(&sheet[..55]).unwrap_err();
     /// assert_eq!(refusal.to_string(), "the sheet is under 56 bytes");
@@ -135,24 +148,28 @@ impl Decoder {
     pub fn decode(&mut self, sheet: &[u8]) -> Result<Match<'_>, Refusal> {
         let sizes = Sizes::of_sheet(sheet);
         let answered = loop {
-            let answered = ffi::decode(sheet, self.areas.lend(&sizes, self.heap));
+            let answered = self.areas.decode(sheet, &sizes, self.heap);
             if answered.number != HEAP_USED_UP || self.heap == self.heap_limit {
                 break answered;
             }
             self.heap = self.heap.saturating_mul(2).min(self.heap_limit);
+            self.metrics.heap_doublings += 1;
         };
-        match Refusal::of(answered.number, answered.a, answered.b) {
+        let refusal = Refusal::of(answered.number, answered.a, answered.b);
+        self.metrics.count(refusal);
+        let (ids, lengths_m) = self.areas.lists(answered.count);
+        match refusal {
             Some(refusal) => Err(refusal),
             None => Ok(Match {
-                ids: &self.areas.ids[..answered.count],
-                lengths: &self.areas.lengths[..answered.count],
+                ids,
+                lengths_m,
                 length_m: answered.length_m,
-                start_offset: answered.start_offset,
+                start_offset_m: answered.start_offset,
                 start_fraction: answered.start_fraction,
-                end_offset: answered.end_offset,
+                end_offset_m: answered.end_offset,
                 end_fraction: answered.end_fraction,
                 primary: answered.primary,
-                coverage: answered.coverage,
+                coverage_m: answered.coverage,
             }),
         }
     }
@@ -161,6 +178,27 @@ impl Decoder {
     pub fn heap(&self) -> usize {
         self.heap
     }
+
+    /// The bytes that the areas hold now.
+    pub fn bytes(&self) -> usize {
+        self.areas.bytes()
+    }
+
+    /// Gives all areas back, and the heap has again as many slots as at first. The next sheet allocates what it needs.
+    pub fn shrink(&mut self) {
+        self.areas = Areas::default();
+        self.heap = self.first_heap;
+    }
+
+    /// What this decoder has answered.
+    pub fn metrics(&self) -> Metrics {
+        self.metrics
+    }
+
+    /// The same, and counts from 0 again.
+    pub fn take_metrics(&mut self) -> Metrics {
+        std::mem::take(&mut self.metrics)
+    }
 }
 
 impl fmt::Debug for Decoder {
@@ -168,53 +206,7 @@ impl fmt::Debug for Decoder {
         f.debug_struct("Decoder")
             .field("heap", &self.heap)
             .field("heap_limit", &self.heap_limit)
+            .field("metrics", &self.metrics)
             .finish_non_exhaustive()
     }
-}
-
-#[derive(Default)]
-struct Areas {
-    real: Vec<f64>,
-    penalised: Vec<f64>,
-    came_from: Vec<usize>,
-    route: Vec<usize>,
-    best_route: Vec<usize>,
-    key: Vec<f64>,
-    cost: Vec<f64>,
-    node: Vec<usize>,
-    order: Vec<usize>,
-    covered: Vec<usize>,
-    coverage: Vec<f64>,
-    ids: Vec<u64>,
-    lengths: Vec<f64>,
-}
-
-impl Areas {
-    /// Lends what is needed and no more: a call zeroes the answer lists to their end.
-    fn lend(&mut self, sizes: &Sizes, heap: usize) -> ffi::Lent<'_> {
-        ffi::Lent {
-            real: front(&mut self.real, sizes.node),
-            penalised: front(&mut self.penalised, sizes.node),
-            came_from: front(&mut self.came_from, sizes.node),
-            route: front(&mut self.route, sizes.route),
-            best_route: front(&mut self.best_route, sizes.route),
-            key: front(&mut self.key, heap),
-            cost: front(&mut self.cost, heap),
-            node: front(&mut self.node, heap),
-            order: front(&mut self.order, heap),
-            covered: front(&mut self.covered, sizes.list),
-            coverage: front(&mut self.coverage, sizes.list),
-            ids: front(&mut self.ids, sizes.list),
-            lengths: front(&mut self.lengths, sizes.list),
-        }
-    }
-}
-
-/// The first entries of an area, grown to them if it is shorter.
-fn front<T: Clone + Default>(area: &mut Vec<T>, size: usize) -> &mut [T] {
-    if area.len() < size {
-        area.reserve_exact(size - area.len());
-        area.resize(size, T::default());
-    }
-    &mut area[..size]
 }

@@ -1,4 +1,5 @@
 //! The calls of include/hemokatu.h, made safe by what is lent: Rust's slices are valid, aligned and never overlap.
+//! What a call is lent is known here alone.
 
 #[repr(C)]
 pub struct Judgement {
@@ -29,24 +30,9 @@ pub struct Answered {
     pub coverage: f64,
 }
 
-/// What a call is lent beside the sheet, in the call's order.
-pub struct Lent<'a> {
-    pub real: &'a mut [f64],
-    pub penalised: &'a mut [f64],
-    pub came_from: &'a mut [usize],
-    pub route: &'a mut [usize],
-    pub best_route: &'a mut [usize],
-    pub key: &'a mut [f64],
-    pub cost: &'a mut [f64],
-    pub node: &'a mut [usize],
-    pub order: &'a mut [usize],
-    pub covered: &'a mut [usize],
-    pub coverage: &'a mut [f64],
-    pub ids: &'a mut [u64],
-    pub lengths: &'a mut [f64],
-}
-
 extern "C" {
+    fn hemokatu_version() -> u32;
+
     fn hemokatu_judge(sheet: *const u8, sheet_len: usize) -> Judgement;
 
     fn hemokatu_sizes(points: usize, nodes: usize) -> Sizes;
@@ -83,6 +69,11 @@ extern "C" {
     ) -> Answered;
 }
 
+pub fn version() -> u32 {
+    // SAFETY: the call takes nothing and touches nothing.
+    unsafe { hemokatu_version() }
+}
+
 pub fn judge(sheet: &[u8]) -> Judgement {
     // SAFETY: pointer and length are of one slice, which is only read.
     unsafe { hemokatu_judge(sheet.as_ptr(), sheet.len()) }
@@ -93,39 +84,98 @@ pub fn sizes(points: usize, nodes: usize) -> Sizes {
     unsafe { hemokatu_sizes(points, nodes) }
 }
 
-pub fn decode(sheet: &[u8], lent: Lent<'_>) -> Answered {
-    // SAFETY: each pointer and the length beside it are of one slice; the sheet is only read, and all others are
-    // borrowed mutably, so nothing overlaps. The call accepts every content and every length.
-    unsafe {
-        hemokatu_decode(
-            sheet.as_ptr(),
-            sheet.len(),
-            lent.real.as_mut_ptr(),
-            lent.real.len(),
-            lent.penalised.as_mut_ptr(),
-            lent.penalised.len(),
-            lent.came_from.as_mut_ptr(),
-            lent.came_from.len(),
-            lent.route.as_mut_ptr(),
-            lent.route.len(),
-            lent.best_route.as_mut_ptr(),
-            lent.best_route.len(),
-            lent.key.as_mut_ptr(),
-            lent.key.len(),
-            lent.cost.as_mut_ptr(),
-            lent.cost.len(),
-            lent.node.as_mut_ptr(),
-            lent.node.len(),
-            lent.order.as_mut_ptr(),
-            lent.order.len(),
-            lent.covered.as_mut_ptr(),
-            lent.covered.len(),
-            lent.coverage.as_mut_ptr(),
-            lent.coverage.len(),
-            lent.ids.as_mut_ptr(),
-            lent.ids.len(),
-            lent.lengths.as_mut_ptr(),
-            lent.lengths.len(),
-        )
+/// What a call is lent beside the sheet. The areas grow to the largest sheet and are kept.
+#[derive(Default)]
+pub struct Areas {
+    real: Vec<f64>,
+    penalised: Vec<f64>,
+    came_from: Vec<usize>,
+    route: Vec<usize>,
+    best_route: Vec<usize>,
+    key: Vec<f64>,
+    cost: Vec<f64>,
+    node: Vec<usize>,
+    order: Vec<usize>,
+    covered: Vec<usize>,
+    coverage: Vec<f64>,
+    ids: Vec<u64>,
+    lengths: Vec<f64>,
+}
+
+impl Areas {
+    /// One call. It is lent what is needed and no more, since it zeroes the answer lists to their end.
+    pub fn decode(&mut self, sheet: &[u8], sizes: &crate::Sizes, heap: usize) -> Answered {
+        let real = front(&mut self.real, sizes.node);
+        let penalised = front(&mut self.penalised, sizes.node);
+        let came_from = front(&mut self.came_from, sizes.node);
+        let route = front(&mut self.route, sizes.route);
+        let best_route = front(&mut self.best_route, sizes.route);
+        let key = front(&mut self.key, heap);
+        let cost = front(&mut self.cost, heap);
+        let node = front(&mut self.node, heap);
+        let order = front(&mut self.order, heap);
+        let covered = front(&mut self.covered, sizes.list);
+        let coverage = front(&mut self.coverage, sizes.list);
+        let ids = front(&mut self.ids, sizes.list);
+        let lengths = front(&mut self.lengths, sizes.list);
+        // SAFETY: each pointer and the length beside it are of one slice; the sheet is only read, and all others are
+        // borrowed mutably, so nothing overlaps. The call accepts every content and every length.
+        unsafe {
+            hemokatu_decode(
+                sheet.as_ptr(),
+                sheet.len(),
+                real.as_mut_ptr(),
+                real.len(),
+                penalised.as_mut_ptr(),
+                penalised.len(),
+                came_from.as_mut_ptr(),
+                came_from.len(),
+                route.as_mut_ptr(),
+                route.len(),
+                best_route.as_mut_ptr(),
+                best_route.len(),
+                key.as_mut_ptr(),
+                key.len(),
+                cost.as_mut_ptr(),
+                cost.len(),
+                node.as_mut_ptr(),
+                node.len(),
+                order.as_mut_ptr(),
+                order.len(),
+                covered.as_mut_ptr(),
+                covered.len(),
+                coverage.as_mut_ptr(),
+                coverage.len(),
+                ids.as_mut_ptr(),
+                ids.len(),
+                lengths.as_mut_ptr(),
+                lengths.len(),
+            )
+        }
     }
+
+    /// The first entries of the answer lists: ids and lengths.
+    pub fn lists(&self, count: usize) -> (&[u64], &[f64]) {
+        (&self.ids[..count], &self.lengths[..count])
+    }
+
+    /// The bytes that all areas hold; every entry has 8.
+    pub fn bytes(&self) -> usize {
+        let reals = [&self.real, &self.penalised, &self.key, &self.cost];
+        let metres = [&self.coverage, &self.lengths];
+        let numbers = [&self.came_from, &self.route, &self.best_route];
+        let more = [&self.node, &self.order, &self.covered];
+        let reals = reals.into_iter().chain(metres).map(Vec::capacity);
+        let numbers = numbers.into_iter().chain(more).map(Vec::capacity);
+        8 * (reals.chain(numbers).sum::<usize>() + self.ids.capacity())
+    }
+}
+
+/// The first entries of an area, grown to them if it is shorter.
+fn front<T: Clone + Default>(area: &mut Vec<T>, size: usize) -> &mut [T] {
+    if area.len() < size {
+        area.reserve_exact(size - area.len());
+        area.resize(size, T::default());
+    }
+    &mut area[..size]
 }

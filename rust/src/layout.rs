@@ -10,92 +10,155 @@ pub const MOST_GOALS: usize = 1024;
 /// The limit of a point without a path entry.
 pub const NO_PATH: u8 = 255;
 
-/// The fields of a record in their order: bytes and name.
-type Fields = [(usize, &'static str)];
+/// A field of a record: its bytes, its name and what may stand there.
+pub struct Entry {
+    pub size: usize,
+    pub name: &'static str,
+    pub form: Form,
+}
 
-const HEADER: &Fields = &[
-    (4, "kind"),
-    (4, "number of points"),
-    (4, "number of nodes"),
-    (4, "number of roads"),
-    (4, "number of rows"),
-    (4, "number of goal rows"),
-    (4, "offset of the settings"),
-    (4, "offset of the points"),
-    (4, "offset of the roads"),
-    (4, "offset of the lists"),
-    (4, "offset of the rows"),
-    (4, "offset of the distances"),
-    (4, "total length"),
-    (4, "final zero"),
+/// What may stand in a field.
+#[derive(Clone, Copy)]
+pub enum Form {
+    /// A word of the header.
+    Word(Word),
+    /// An id, any u64.
+    Id,
+    /// Metres or a weight: an f64 within the range of all.
+    Real,
+    /// Degrees of a row: an f64 up to 360.
+    Bearing,
+    /// The distance to the next point: `Real`, and 0 without a path entry.
+    Dnp,
+    /// A number up to this one.
+    UpTo(u64),
+    /// A class or 255.
+    Limit,
+    /// The number of a node.
+    Node,
+    /// The number of a road.
+    Road,
+    /// A position in the lists.
+    Start,
+    /// Zeros, each byte a field of its own.
+    Spare,
+}
+
+/// The words of the header.
+#[derive(Clone, Copy)]
+pub enum Word {
+    Kind,
+    Points,
+    UpTo(usize),
+    /// An offset, or the total: the place of a section.
+    Begin(usize),
+    Zero,
+}
+
+const fn entry(size: usize, name: &'static str, form: Form) -> Entry {
+    Entry { size, name, form }
+}
+
+const fn word(name: &'static str, word: Word) -> Entry {
+    entry(4, name, Form::Word(word))
+}
+
+const fn real(name: &'static str) -> Entry {
+    entry(8, name, Form::Real)
+}
+
+const fn class(name: &'static str) -> Entry {
+    entry(1, name, Form::UpTo(7))
+}
+
+const fn spare(size: usize) -> Entry {
+    entry(size, "spare byte", Form::Spare)
+}
+
+pub const HEADER: &[Entry] = &[
+    word("kind", Word::Kind),
+    word("number of points", Word::Points),
+    word("number of nodes", Word::UpTo(MOST_NODES)),
+    word("number of roads", Word::UpTo(MOST_ROADS)),
+    word("number of rows", Word::UpTo(MOST_ROWS)),
+    word("number of goal rows", Word::UpTo(MOST_GOALS)),
+    word("offset of the settings", Word::Begin(0)),
+    word("offset of the points", Word::Begin(1)),
+    word("offset of the roads", Word::Begin(2)),
+    word("offset of the lists", Word::Begin(3)),
+    word("offset of the rows", Word::Begin(4)),
+    word("offset of the distances", Word::Begin(5)),
+    word("total length", Word::Begin(6)),
+    word("final zero", Word::Zero),
 ];
 
-const SETTINGS: &Fields = &[
-    (8, "search_radius_m"),
-    (8, "max_bearing_diff"),
-    (8, "max_candidate_distance_m"),
-    (8, "distance_weight"),
-    (8, "bearing_weight"),
-    (8, "frc_weight"),
-    (8, "fow_weight"),
-    (8, "length_tolerance"),
-    (8, "absolute_length_tolerance"),
-    (8, "max_search_distance_factor"),
-    (8, "slip_road_cost_penalty"),
-    (8, "access_road_cost_penalty"),
-    (8, "max_snap_extension_m"),
-    (1, "frc_tolerance"),
-    (1, "snap_to_valid_nodes"),
-    (2, "max_candidates"),
-    (4, SPARE),
+pub const SETTINGS: &[Entry] = &[
+    real("search_radius_m"),
+    real("max_bearing_diff_deg"),
+    real("max_candidate_distance_m"),
+    real("distance_weight"),
+    real("bearing_weight"),
+    real("frc_weight"),
+    real("fow_weight"),
+    real("length_tolerance"),
+    real("absolute_length_tolerance_m"),
+    real("max_search_distance_factor"),
+    real("slip_road_cost_penalty_m"),
+    real("access_road_cost_penalty_m"),
+    real("max_snap_extension_m"),
+    entry(1, "frc_tolerance", Form::UpTo(255)),
+    entry(1, "snap_to_valid_nodes", Form::UpTo(1)),
+    entry(2, "max_candidates", Form::UpTo(64)),
+    spare(4),
 ];
 
-const POINT: &Fields = &[
-    (8, "DNP"),
-    (2, "bearing"),
-    (1, "FRC"),
-    (1, "FOW"),
-    (1, "limit"),
-    (3, SPARE),
-    (4, "row count"),
-    (4, SPARE),
+pub const POINT: &[Entry] = &[
+    entry(8, "DNP", Form::Dnp),
+    entry(2, "bearing", Form::UpTo(360)),
+    class("FRC"),
+    class("FOW"),
+    entry(1, "LFRCNP", Form::Limit),
+    spare(3),
+    entry(4, "row count", Form::UpTo(MOST_ROWS_OF_POINT as u64)),
+    spare(4),
 ];
 
-const ROAD: &Fields = &[
-    (8, "id"),
-    (8, "length"),
-    (4, "source"),
-    (4, "target"),
-    (1, "FRC"),
-    (1, "FOW"),
-    (1, "access flag"),
-    (5, SPARE),
+/// Places in a point's record.
+pub const POINT_LIMIT: usize = 12;
+pub const POINT_ROWS: usize = 16;
+
+pub const ROAD: &[Entry] = &[
+    entry(8, "id", Form::Id),
+    real("length"),
+    entry(4, "source", Form::Node),
+    entry(4, "target", Form::Node),
+    class("FRC"),
+    class("FOW"),
+    entry(1, "access flag", Form::UpTo(1)),
+    spare(5),
 ];
 
-const ROW: &Fields = &[
-    (4, "road"),
-    (4, SPARE),
-    (8, "distance"),
-    (8, "bearing"),
-    (8, "along"),
-    (8, "line length"),
+pub const ROW: &[Entry] = &[
+    entry(4, "road", Form::Road),
+    spare(4),
+    real("distance"),
+    entry(8, "bearing", Form::Bearing),
+    real("along"),
+    real("line length"),
 ];
 
 /// What stands before the distances of a goal row.
-const GOAL: &Fields = &[(4, "node"), (4, SPARE)];
+pub const GOAL: &[Entry] = &[entry(4, "node", Form::Node), spare(4)];
 
-const SPARE: &str = "spare byte";
+pub const START: &[Entry] = &[entry(4, "start position", Form::Start)];
+pub const NUMBER: &[Entry] = &[entry(4, "road number", Form::Road)];
+pub const DISTANCE: &[Entry] = &[real("distance")];
 
-/// The bytes of a start position, of a road number and of a distance.
-const START: usize = 4;
-const NUMBER: usize = 4;
-const DISTANCE: usize = 8;
-
-const fn size(fields: &Fields) -> usize {
+pub const fn size(entries: &[Entry]) -> usize {
     let mut sum = 0;
     let mut i = 0;
-    while i < fields.len() {
-        sum += fields[i].0;
+    while i < entries.len() {
+        sum += entries[i].size;
         i += 1;
     }
     sum
@@ -113,6 +176,7 @@ pub struct Counts {
 }
 
 /// Where the sections begin, and the length of the sheet.
+#[derive(Debug, Clone, Copy)]
 pub struct Sections {
     pub settings: usize,
     pub points: usize,
@@ -138,7 +202,7 @@ impl Counts {
         })
     }
 
-    fn within_limits(&self) -> bool {
+    pub fn within_limits(&self) -> bool {
         self.points <= MOST_POINTS
             && self.nodes <= MOST_NODES
             && self.roads <= MOST_ROADS
@@ -152,9 +216,9 @@ impl Counts {
         let points = settings + size(SETTINGS);
         let roads = points + size(POINT) * self.points;
         let lists = roads + size(ROAD) * self.roads;
-        let rows = lists + START * (self.nodes + 1) + NUMBER * self.roads;
+        let rows = roads + network_size(self.nodes, self.roads);
         let distances = rows + size(ROW) * self.rows;
-        let total = distances + 2 * DISTANCE * self.nodes + self.goal_size() * self.goals;
+        let total = distances + 2 * self.distances_size() + self.goal_size() * self.goals;
         Sections {
             settings,
             points,
@@ -166,101 +230,36 @@ impl Counts {
         }
     }
 
-    fn goal_size(&self) -> usize {
-        size(GOAL) + DISTANCE * self.nodes
+    /// The bytes of a distance for each node.
+    pub fn distances_size(&self) -> usize {
+        size(DISTANCE) * self.nodes
+    }
+
+    pub fn goal_size(&self) -> usize {
+        size(GOAL) + self.distances_size()
     }
 }
 
-fn u32_at(bytes: &[u8], at: usize) -> Option<usize> {
+impl Sections {
+    pub fn in_order(&self) -> [usize; 7] {
+        [
+            self.settings,
+            self.points,
+            self.roads,
+            self.lists,
+            self.rows,
+            self.distances,
+            self.total,
+        ]
+    }
+}
+
+/// The bytes of the roads and the lists.
+pub fn network_size(nodes: usize, roads: usize) -> usize {
+    (size(ROAD) + size(NUMBER)) * roads + size(START) * (nodes + 1)
+}
+
+pub fn u32_at(bytes: &[u8], at: usize) -> Option<usize> {
     let word = bytes.get(at..at + 4)?.try_into().ok()?;
     Some(u32::from_le_bytes(word) as usize)
-}
-
-/// Says in words which field stands at an offset of a sheet, as of [`Refusal::Value`](crate::Refusal::Value).
-/// None where the counts are above their limits, or behind the sheet.
-///
-/// ```
-/// let sheet = std::fs::read("../sheets/s1.sheet")?;
-/// assert_eq!(hemokatu::field_at(&sheet, 224).unwrap(), "length of road 0");
-/// # Ok::<(), std::io::Error>(())
-/// ```
-pub fn field_at(sheet: &[u8], offset: usize) -> Option<String> {
-    let counts = Counts::read(sheet).filter(Counts::within_limits)?;
-    let begins = counts.sections();
-    let name = |fields: &Fields, begin: usize| name_in(fields, (offset - begin) % size(fields));
-    let record = |fields: &Fields, begin: usize| (offset - begin) / size(fields);
-    Some(if offset < begins.settings {
-        format!("{} of the header", name(HEADER, 0))
-    } else if offset < begins.points {
-        format!("{} of the settings", name(SETTINGS, begins.settings))
-    } else if offset < begins.roads {
-        let point = record(POINT, begins.points);
-        format!("{} of point {point}", name(POINT, begins.points))
-    } else if offset < begins.lists {
-        let road = record(ROAD, begins.roads);
-        format!("{} of road {road}", name(ROAD, begins.roads))
-    } else if offset < begins.rows {
-        in_lists(&counts, offset - begins.lists)
-    } else if offset < begins.distances {
-        let row = row_of_point(sheet, &begins, record(ROW, begins.rows));
-        format!("{} of {row}", name(ROW, begins.rows))
-    } else if offset < begins.total {
-        in_distances(&counts, offset - begins.distances)
-    } else {
-        return None;
-    })
-}
-
-/// The name of the field at an offset of its record.
-fn name_in(fields: &Fields, offset: usize) -> &'static str {
-    let mut end = 0;
-    for (bytes, name) in fields {
-        end += bytes;
-        if offset < end {
-            return name;
-        }
-    }
-    SPARE
-}
-
-fn in_lists(counts: &Counts, offset: usize) -> String {
-    let starts = START * (counts.nodes + 1);
-    match offset.checked_sub(starts) {
-        None => format!("start position {} of the lists", offset / START),
-        Some(behind) => format!("road number {} of the lists", behind / NUMBER),
-    }
-}
-
-/// A row by its point and its place there, by the points' own row counts.
-fn row_of_point(sheet: &[u8], begins: &Sections, number: usize) -> String {
-    let row_count = size(POINT) - 8;
-    let mut row = number;
-    for (point, at) in (begins.points..begins.roads)
-        .step_by(size(POINT))
-        .enumerate()
-    {
-        let rows = u32_at(sheet, at + row_count).unwrap_or(0);
-        if row < rows {
-            return format!("row {row} of point {point}");
-        }
-        row -= rows;
-    }
-    format!("row {number}")
-}
-
-fn in_distances(counts: &Counts, offset: usize) -> String {
-    let each = DISTANCE * counts.nodes;
-    let node = |offset: usize| offset / DISTANCE;
-    let Some(in_goals) = offset.checked_sub(2 * each) else {
-        return match offset.checked_sub(each) {
-            None => format!("distance of node {} from the first point", node(offset)),
-            Some(behind) => format!("distance of node {} from the last point", node(behind)),
-        };
-    };
-    let goal = in_goals / counts.goal_size();
-    let at = in_goals % counts.goal_size();
-    match at.checked_sub(size(GOAL)) {
-        None => format!("{} of goal row {goal}", name_in(GOAL, at)),
-        Some(behind) => format!("distance of node {} in goal row {goal}", node(behind)),
-    }
 }

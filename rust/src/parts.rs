@@ -38,8 +38,8 @@ impl Kind {
         Kind::ClosedLine,
     ];
 
-    /// The kind of a number on a sheet.
-    pub(crate) fn of(number: usize) -> Option<Kind> {
+    /// The kind of a number on a sheet; None unless it is from 1 to 9.
+    pub fn of(number: usize) -> Option<Kind> {
         Kind::ALL.into_iter().find(|kind| *kind as usize == number)
     }
 }
@@ -60,20 +60,26 @@ impl fmt::Display for Kind {
     }
 }
 
-/// The settings of one call, with the names and the defaults of the original decoder.
+/// The settings of one call, with the names and the defaults of the original decoder; metres and degrees are marked.
+///
+/// More settings may come, so they are made from the defaults:
 ///
 /// ```
 /// use hemokatu::Settings;
 ///
-/// let settings = Settings { snap_to_valid_nodes: false, ..Settings::default() };
+/// let settings = Settings::default().with(|s| {
+///     s.snap_to_valid_nodes = false;
+///     s.max_candidates = 20;
+/// });
 /// assert_eq!(settings.search_radius_m, 100.0);
 /// ```
 #[derive(Debug, Clone, Copy, PartialEq)]
+#[non_exhaustive]
 pub struct Settings {
     /// A road farther from a point is no candidate; the scale of the distance penalty. 100.
     pub search_radius_m: f64,
     /// A road whose bearing differs by more degrees is no candidate; the scale of the bearing penalty. 90.
-    pub max_bearing_diff: f64,
+    pub max_bearing_diff_deg: f64,
     /// One point at least has a candidate as near as this. 35.
     pub max_candidate_distance_m: f64,
     /// Weight of the distance in a candidate's score. 10.
@@ -87,13 +93,13 @@ pub struct Settings {
     /// By what part of its DNP a leg may differ from it; the looser of this and the next holds. 0.35.
     pub length_tolerance: f64,
     /// By how many metres a leg may differ from its DNP. 100.
-    pub absolute_length_tolerance: f64,
+    pub absolute_length_tolerance_m: f64,
     /// A leg is searched up to this multiple of its DNP, and at least 500 m. 2.
     pub max_search_distance_factor: f64,
     /// Metres that a slip road costs a search beside its length. 20.
-    pub slip_road_cost_penalty: f64,
+    pub slip_road_cost_penalty_m: f64,
     /// Metres that an access road costs a search beside its length. 10.
-    pub access_road_cost_penalty: f64,
+    pub access_road_cost_penalty_m: f64,
     /// The most metres that an end is walked on to a valid node. 25.
     pub max_snap_extension_m: f64,
     /// By how many classes a candidate may differ from its point, and by how many a leg's limit is raised. 2.
@@ -108,17 +114,17 @@ impl Default for Settings {
     fn default() -> Self {
         Settings {
             search_radius_m: 100.0,
-            max_bearing_diff: 90.0,
+            max_bearing_diff_deg: 90.0,
             max_candidate_distance_m: 35.0,
             distance_weight: 10.0,
             bearing_weight: 0.2,
             frc_weight: 0.1,
             fow_weight: 0.1,
             length_tolerance: 0.35,
-            absolute_length_tolerance: 100.0,
+            absolute_length_tolerance_m: 100.0,
             max_search_distance_factor: 2.0,
-            slip_road_cost_penalty: 20.0,
-            access_road_cost_penalty: 10.0,
+            slip_road_cost_penalty_m: 20.0,
+            access_road_cost_penalty_m: 10.0,
             max_snap_extension_m: 25.0,
             frc_tolerance: 2,
             snap_to_valid_nodes: true,
@@ -127,11 +133,19 @@ impl Default for Settings {
     }
 }
 
+impl Settings {
+    /// These settings with some changed.
+    pub fn with(mut self, change: impl FnOnce(&mut Settings)) -> Settings {
+        change(&mut self);
+        self
+    }
+}
+
 /// A location reference point.
 #[derive(Debug, Clone, PartialEq)]
 pub struct Point {
     /// Degrees, 0 to 360.
-    pub bearing: u16,
+    pub bearing_deg: u16,
     /// Road class, 0 to 7.
     pub frc: u8,
     /// Form of way, 0 to 7.
@@ -145,10 +159,10 @@ pub struct Point {
 /// What a point says of the way to the next one.
 #[derive(Debug, Clone, Copy, PartialEq)]
 pub struct PathEntry {
-    /// LFRCNP, the lowest class on the way, 0 to 7.
-    pub limit: u8,
-    /// DNP, the distance to the next point in metres.
-    pub dnp: f64,
+    /// The lowest class on the way to the next point, 0 to 7.
+    pub lfrcnp: u8,
+    /// The distance to the next point in metres.
+    pub dnp_m: f64,
 }
 
 /// A point measured against a road.
@@ -157,17 +171,19 @@ pub struct Row {
     /// The road's number.
     pub road: usize,
     /// Metres from the point to the road.
-    pub distance: f64,
+    pub distance_m: f64,
     /// The road's bearing at the projection, 0 to 360 degrees.
-    pub bearing: f64,
+    pub bearing_deg: f64,
     /// Metres along the road's line to the projection.
-    pub along: f64,
+    pub along_m: f64,
     /// Metres of the whole line.
-    pub line: f64,
+    pub line_length_m: f64,
 }
 
 /// A directed road.
-#[derive(Debug, Clone, Copy, PartialEq)]
+///
+/// More fields may come; `..Road::default()` leaves room for them, and has zeros and no access road for what is not named.
+#[derive(Debug, Clone, Copy, PartialEq, Default)]
 pub struct Road {
     /// What the answer calls it.
     pub id: u64,

@@ -4,8 +4,10 @@ mod common;
 
 use common::{chain, one_road, point, point_to_next, road, row, s1, sample, without_distances};
 use hemokatu::{
-    field_at, judge, BuildError, Decoder, Distances, Kind, Refusal, Row, Settings, SheetBuilder,
+    field_at, fields, judge, BuildError, Decoder, Distances, Kind, Network, Part, PathEntry, Point,
+    Refusal, Road, Row, Settings, SheetBuilder, Value,
 };
+use std::sync::Arc;
 
 #[test]
 fn marked_sheets_byte_for_byte() {
@@ -68,7 +70,7 @@ fn counts_above_their_limits() {
         ),
         (
             one_road(vec![point(vec![row(0, 0.0); 65])]),
-            "65 rows of a point, at most 64 are possible",
+            "65 rows of point 0, at most 64 are possible",
         ),
     ];
     for (sheet, text) in many {
@@ -97,21 +99,30 @@ fn numbers_of_what_is_not_there() {
     let mut sheet = s1();
     sheet.road(road(701, 1.0, 0, 2));
     let (error, text) = refused(&sheet);
-    assert_eq!(error, BuildError::RoadWithoutNode { road: 1, node: 2 });
-    assert_eq!(text, "road 1 names node 2, which is not there");
+    assert!(matches!(
+        error,
+        BuildError::RoadWithoutNode {
+            road: 1,
+            node: 2,
+            ..
+        }
+    ));
+    assert_eq!(text, "road 1 (id 701) names node 2, and there are 2 nodes");
 
     let mut sheet = s1();
     sheet.point(point(vec![row(usize::MAX, 1.0)]));
-    let point = 2;
-    let road = usize::MAX;
-    assert_eq!(
-        refused(&sheet).0,
-        BuildError::RowWithoutRoad { point, road }
+    let text = format!(
+        "a row of point 2 names road {}, and there are 1 roads",
+        usize::MAX
     );
+    assert_eq!(refused(&sheet).1, text);
 
     let mut sheet = s1();
     sheet.goal(2, vec![0.0; 2]);
-    assert_eq!(refused(&sheet).1, "goal node 2 is not there");
+    assert_eq!(
+        refused(&sheet).1,
+        "goal node 2 is not there, there are 2 nodes"
+    );
 }
 
 #[test]
@@ -121,8 +132,12 @@ fn rows_and_lists_that_repeat() {
 
     for (node, roads) in [(0, vec![]), (0, vec![0, 0]), (1, vec![0]), (2, vec![])] {
         let mut sheet = s1();
-        sheet.leaving(node, roads);
-        assert_eq!(refused(&sheet).0, BuildError::Leaving { node });
+        sheet.leaving(node, roads.clone());
+        let leave = if node == 0 { vec![0] } else { vec![] };
+        let text = format!(
+            "the roads given for node {node} are {roads:?}, and those that leave it are {leave:?}"
+        );
+        assert_eq!(refused(&sheet).1, text);
     }
 }
 
@@ -146,7 +161,7 @@ fn distances_that_are_missing() {
     assert_eq!(sheet.goal_nodes(), [0, 1, 2]);
     assert_eq!(
         refused(&sheet).1,
-        "the distances to goal node 0 are missing"
+        "the distances to goal node 0 are missing: road 0 leaves it, and a row of point 2 names that road"
     );
 }
 
@@ -155,47 +170,114 @@ fn values_out_of_range_are_named() {
     let mut sheet = s1();
     sheet.road(road(701, -0.0, 0, 1));
     let (error, text) = refused(&sheet);
-    assert_eq!(text, "length of road 1 is out of range");
-    let BuildError::Refused { refusal, field } = error else {
+    assert_eq!(
+        text,
+        "length of road 1 (id 701) is -0, and may be 0 to 10000000, not -0"
+    );
+    let BuildError::Value { field } = error else {
         panic!("{error}");
     };
-    assert_eq!(
-        refusal,
-        Refusal::Value {
-            offset: 168 + 48 + 32 + 8
-        }
-    );
-    assert_eq!(field.unwrap(), "length of road 1");
+    assert_eq!(field.part, Part::Road { road: 1, id: 701 });
+    assert_eq!((field.name, field.value), ("length", Value::Real(-0.0)));
 
+    let settings = |s: &mut Settings| s.max_candidates = 65;
     let mut sheet = s1();
-    sheet.settings(Settings {
-        max_candidates: 65,
-        ..Settings::default()
-    });
-    assert_eq!(
-        refused(&sheet).1,
-        "max_candidates of the settings is out of range"
-    );
+    sheet.settings(Settings::default().with(settings));
+    let text = "max_candidates of the settings is 65, and may be 0 to 64";
+    assert_eq!(refused(&sheet).1, text);
 
     let mut sheet = s1();
     sheet.from_last(vec![0.0, f64::NAN]);
-    let text = "distance of node 1 from the last point is out of range";
+    let text = "distance of node 1 from the last point is NaN, and may be 0 to 10000000, not -0";
     assert_eq!(refused(&sheet).1, text);
 
     let mut sheet = s1();
     sheet.goal(0, vec![1e7, 1.1e7]);
-    let text = "distance of node 1 in goal row 0 is out of range";
+    let text = "distance of node 1 in goal row 0 (to node 0) is 11000000, and may be 0 to 10000000, not -0";
     assert_eq!(refused(&sheet).1, text);
 
     let far = Row {
-        bearing: 361.0,
+        bearing_deg: 361.0,
         ..row(0, 1.0)
     };
     let sheet = one_road(vec![point(vec![row(0, 1.0)]), point(vec![far])]);
+    let text = "bearing of row 0 of point 1 (road 0) is 361, and may be 0 to 360, not -0";
+    assert_eq!(refused(&sheet).1, text);
+
+    let path = Some(PathEntry {
+        lfrcnp: 8,
+        dnp_m: 1.0,
+    });
+    let class = Point {
+        path,
+        ..point(vec![])
+    };
+    let text = "LFRCNP of point 0 is 8, and may be 0 to 7, or 255 for no path entry";
+    assert_eq!(refused(&one_road(vec![class])).1, text);
+}
+
+/// Sheets over a kept network, and the same with the roads added to each.
+#[test]
+fn a_network_is_kept() {
+    let mut network = Network::new(4);
+    for r in two_ways().network().roads() {
+        network.road(*r);
+    }
+    network.leaving(1, vec![1, 2]);
+    network.check().unwrap();
+    let network = Arc::new(network);
+    let mut kept = SheetBuilder::over(Kind::Line, network.clone());
+    let mut into = vec![7; 3];
+    for dnp in [200.0, 150.0, 250.0] {
+        let points = [
+            point_to_next(dnp, vec![row(0, 50.0)]),
+            point(vec![row(3, 50.0)]),
+        ];
+        let mut alone = two_ways();
+        alone.restart(Kind::Line);
+        alone.leaving(1, vec![1, 2]);
+        kept.restart(Kind::Line);
+        for sheet in [&mut alone, &mut kept] {
+            for point in &points {
+                sheet.point(point.clone());
+            }
+            without_distances(sheet, 4);
+        }
+        let bytes = kept.build().unwrap();
+        assert_eq!(bytes, alone.build().unwrap());
+        kept.build_into(&mut into).unwrap();
+        assert_eq!(bytes, into);
+    }
+    assert!(std::ptr::eq(kept.network(), &*network));
+    // a road that one sheet adds is not the others'
+    kept.road(road(9, 1.0, 0, 1));
     assert_eq!(
-        refused(&sheet).1,
-        "bearing of row 0 of point 1 is out of range"
+        (kept.network().roads().len(), network.roads().len()),
+        (5, 4)
     );
+    assert!(kept.build().is_ok());
+}
+
+#[test]
+fn a_network_says_what_is_wrong() {
+    let mut network = Network::new(2);
+    network.check().unwrap();
+    network.road(Road {
+        frc: 8,
+        ..road(70, 1.0, 0, 1)
+    });
+    let text = "FRC of road 0 (id 70) is 8, and may be 0 to 7";
+    assert_eq!(network.check().unwrap_err().to_string(), text);
+    let mut into = vec![1];
+    let mut sheet = SheetBuilder::over(Kind::Line, network);
+    without_distances(&mut sheet, 2);
+    assert_eq!(sheet.build_into(&mut into).unwrap_err().to_string(), text);
+    assert!(into.is_empty());
+
+    let mut network = Network::new(1);
+    network.road(road(70, 1.0, 0, 1));
+    let text = "road 0 (id 70) names node 1, and there are 1 nodes";
+    assert_eq!(network.check().unwrap_err().to_string(), text);
 }
 
 /// Wherever a byte makes the judge name a place, it is the place of the field that the byte stands in.
@@ -209,26 +291,58 @@ fn fields_are_where_the_judge_sees_them() {
             changed[at] = value;
             if let Err(Refusal::Value { offset }) = judge(&changed) {
                 let field = field_at(&changed, offset).unwrap();
-                assert_eq!(Some(&field), field_at(&changed, at).as_ref(), "byte {at}");
-                named.insert(field);
+                let bits = |field: &hemokatu::Field| (field.part, field.name, field.offset);
+                let there = field_at(&changed, at).unwrap();
+                // the limit of a point decides whether its DNP may be more than 0
+                if there.name != "LFRCNP" {
+                    assert_eq!(bits(&field), bits(&there), "byte {at}");
+                }
+                assert_eq!(field.offset, offset);
+                assert!(!field.range.has(field.value), "{field} at byte {at}");
+                named.insert(field.to_string());
             }
         }
     }
     for field in [
         "kind of the header",
         "snap_to_valid_nodes of the settings",
-        "limit of point 0",
-        "spare byte of road 3",
-        "target of road 2",
+        "LFRCNP of point 0",
+        "DNP of point 0",
+        "spare byte of road 3 (id 703)",
+        "target of road 2 (id 702)",
         "road number 3 of the lists",
-        "line length of row 0 of point 1",
+        "line length of row 0 of point 1 (road 3)",
         "distance of node 0 from the first point",
         "node of goal row 0",
-        "spare byte of goal row 0",
-        "distance of node 3 in goal row 0",
+        "spare byte of goal row 0 (to node 2)",
+        "distance of node 3 in goal row 0 (to node 2)",
     ] {
         assert!(named.contains(field), "{field}");
     }
     assert_eq!(field_at(&sheet, sheet.len()), None);
-    assert_eq!(field_at(&[255; 56], 0), None);
+    assert_eq!(field_at(&sheet, usize::MAX), None);
+    assert_eq!(field_at(&sheet[..55], 0), None);
+    let kind = field_at(&[255; 56], 3).unwrap();
+    assert_eq!((kind.name, kind.offset), ("kind", 0));
+    assert_eq!(field_at(&[255; 60], 56), None);
+}
+
+#[test]
+fn fields_follow_each_other() {
+    let sheet = two_ways().build().unwrap();
+    let mut end = 0;
+    for field in fields(&sheet) {
+        assert_eq!(field.offset, end);
+        assert!(field.range.has(field.value), "{field}");
+        end += field.size;
+    }
+    assert_eq!(end, sheet.len());
+    // of a sheet that is cut, the fields that are there
+    for cut in 56..sheet.len() {
+        let last = fields(&sheet[..cut]).last().unwrap();
+        let end = last.offset + last.size;
+        assert!(end <= cut && cut < end + 8, "{cut}");
+    }
+    assert_eq!(fields(&sheet[..55]).count(), 0);
+    assert_eq!(fields(&[255; 100]).count(), 14);
 }

@@ -2,8 +2,9 @@
 
 mod common;
 
-use common::{chain, misleading, s1, sample, text};
-use hemokatu::{Decoder, Match, Refusal, Sizes};
+use common::samples::misleading;
+use common::{chain, s1, sample};
+use hemokatu::{list_text, Decoder, Match, Metrics, Refusal, Sizes};
 
 fn send<T: Send + 'static>() {}
 
@@ -18,14 +19,14 @@ fn a_decoder_goes_to_another_thread() {
 fn earlier_sheets_have_no_part() {
     let mut sheets: Vec<Vec<u8>> = ["s1", "s2", "s3", "s4"].map(sample).to_vec();
     sheets.extend([3, 40, 1000, 5].map(|roads| chain(roads).build().unwrap()));
-    let alone = |sheet: &Vec<u8>| text(&Decoder::new().decode(sheet));
+    let alone = |sheet: &Vec<u8>| list_text(&Decoder::new().decode(sheet));
     let expected: Vec<String> = sheets.iter().map(alone).collect();
     let mut kept = Decoder::new();
     for first in 0..sheets.len() {
         for second in 0..sheets.len() {
             for i in [first, second] {
                 assert_eq!(
-                    text(&kept.decode(&sheets[i])),
+                    list_text(&kept.decode(&sheets[i])),
                     expected[i],
                     "{first} {second}"
                 );
@@ -39,7 +40,9 @@ fn threads_with_a_decoder_each() {
     let sheets = [3, 200, 17].map(|roads| chain(roads).build().unwrap());
     let all = || {
         let mut decoder = Decoder::new();
-        sheets.each_ref().map(|sheet| text(&decoder.decode(sheet)))
+        sheets
+            .each_ref()
+            .map(|sheet| list_text(&decoder.decode(sheet)))
     };
     let answers = std::thread::scope(|scope| {
         let threads: Vec<_> = (0..4).map(|_| scope.spawn(all)).collect();
@@ -111,4 +114,50 @@ fn sizes() {
     assert_eq!(Sizes::of(17, 0), None);
     assert_eq!(Sizes::of(0, 1025), None);
     assert_eq!(Sizes::of(usize::MAX, usize::MAX), None);
+}
+
+#[test]
+fn areas_are_given_back() {
+    let mut decoder = Decoder::with_heap(10);
+    assert_eq!(decoder.bytes(), 0);
+    let sheet = misleading(12).build().unwrap();
+    let found = list_text(&decoder.decode(&sheet));
+    let (heap, bytes) = (decoder.heap(), decoder.bytes());
+    assert!(heap > 10_000);
+    let sizes = Sizes::of(2, 28).unwrap();
+    assert_eq!(bytes, sizes.bytes(heap));
+    decoder.shrink();
+    assert_eq!((decoder.heap(), decoder.bytes()), (10, 0));
+    assert_eq!(list_text(&decoder.decode(&sheet)), found);
+    assert_eq!((decoder.heap(), decoder.bytes()), (heap, bytes));
+}
+
+#[test]
+fn answers_are_counted() {
+    let mut decoder = Decoder::with_heap_limit(2);
+    for (name, times) in [("s1", 3), ("s2", 2), ("s4", 1)] {
+        for _ in 0..times {
+            let _ = decoder.decode(&sample(name));
+        }
+    }
+    let _ = decoder.decode(&[]);
+    let _ = decoder.decode(&misleading(3).build().unwrap());
+    let metrics = decoder.metrics();
+    assert_eq!((metrics.calls, metrics.matches), (8, 3));
+    let expected = [1, 0, 0, 0, 0, 0, 0, 1, 0, 2, 1];
+    assert!(metrics.refusals().eq((1..=11).zip(expected)));
+    assert_eq!((metrics.refused(10), metrics.refused(11)), (2, 1));
+    assert_eq!((metrics.refused(0), metrics.refused(12)), (0, 0));
+    assert_eq!(metrics.heap_doublings, 0);
+
+    assert_eq!(decoder.take_metrics(), metrics);
+    assert_eq!(decoder.metrics(), Metrics::default());
+    let mut sum = metrics;
+    sum += metrics;
+    assert_eq!((sum.calls, sum.matches, sum.refused(8)), (16, 6, 2));
+
+    let mut grown = Decoder::with_heap(1);
+    assert!(grown.decode(&chain(3).build().unwrap()).is_ok());
+    assert_eq!(grown.heap(), 1 << grown.metrics().heap_doublings);
+    assert_eq!(grown.metrics().calls, 1);
 }

@@ -19,38 +19,27 @@ fn parts(sheet: &[u8]) -> SheetBuilder {
     };
     let header: Vec<usize> = take(56).chunks(4).map(u32).collect();
     let [kind, p, n, e, _, g] = header[..6].try_into().unwrap();
-    let kinds = [
-        Kind::Line,
-        Kind::PointAlongLine,
-        Kind::GeoCoordinate,
-        Kind::Poi,
-        Kind::Circle,
-        Kind::Rectangle,
-        Kind::Grid,
-        Kind::Polygon,
-        Kind::ClosedLine,
-    ];
-    let mut builder = SheetBuilder::new(kinds[kind - 1], n);
+    let mut builder = SheetBuilder::new(Kind::of(kind).unwrap(), n);
     let numbers = f64s(take(104));
     let last = take(8);
-    builder.settings(Settings {
-        search_radius_m: numbers[0],
-        max_bearing_diff: numbers[1],
-        max_candidate_distance_m: numbers[2],
-        distance_weight: numbers[3],
-        bearing_weight: numbers[4],
-        frc_weight: numbers[5],
-        fow_weight: numbers[6],
-        length_tolerance: numbers[7],
-        absolute_length_tolerance: numbers[8],
-        max_search_distance_factor: numbers[9],
-        slip_road_cost_penalty: numbers[10],
-        access_road_cost_penalty: numbers[11],
-        max_snap_extension_m: numbers[12],
-        frc_tolerance: last[0],
-        snap_to_valid_nodes: last[1] == 1,
-        max_candidates: u16::from_le_bytes([last[2], last[3]]),
-    });
+    builder.settings(Settings::default().with(|s| {
+        s.search_radius_m = numbers[0];
+        s.max_bearing_diff_deg = numbers[1];
+        s.max_candidate_distance_m = numbers[2];
+        s.distance_weight = numbers[3];
+        s.bearing_weight = numbers[4];
+        s.frc_weight = numbers[5];
+        s.fow_weight = numbers[6];
+        s.length_tolerance = numbers[7];
+        s.absolute_length_tolerance_m = numbers[8];
+        s.max_search_distance_factor = numbers[9];
+        s.slip_road_cost_penalty_m = numbers[10];
+        s.access_road_cost_penalty_m = numbers[11];
+        s.max_snap_extension_m = numbers[12];
+        s.frc_tolerance = last[0];
+        s.snap_to_valid_nodes = last[1] == 1;
+        s.max_candidates = u16::from_le_bytes([last[2], last[3]]);
+    }));
     let points: Vec<&[u8]> = (0..p).map(|_| take(24)).collect();
     for _ in 0..e {
         let r = take(32);
@@ -71,26 +60,27 @@ fn parts(sheet: &[u8]) -> SheetBuilder {
     }
     for b in points {
         let path = (b[12] != 255).then(|| PathEntry {
-            limit: b[12],
-            dnp: f64s(&b[..8])[0],
+            lfrcnp: b[12],
+            dnp_m: f64s(&b[..8])[0],
         });
         let mut rows = vec![];
         for _ in 0..u32(&b[16..20]) {
             let r = take(40);
-            let [distance, bearing, along, line] = f64s(&r[8..]).try_into().unwrap();
+            let [distance_m, bearing_deg, along_m, line_length_m] =
+                f64s(&r[8..]).try_into().unwrap();
             let road = u32(&r[..4]);
             rows.push(Row {
                 road,
-                distance,
-                bearing,
-                along,
-                line,
+                distance_m,
+                bearing_deg,
+                along_m,
+                line_length_m,
             });
         }
         // The builder puts them in order.
         rows.reverse();
         builder.point(Point {
-            bearing: u16::from_le_bytes([b[8], b[9]]),
+            bearing_deg: u16::from_le_bytes([b[8], b[9]]),
             frc: b[10],
             fow: b[11],
             path,

@@ -2,8 +2,8 @@
 
 mod common;
 
-use common::{cases, sample, text};
-use hemokatu::{judge, Decoder, Refusal};
+use common::{cases, sample};
+use hemokatu::{judge, list_text, Decoder, Refusal};
 
 const S1: &str = "path 1
 road 700 4059000000000000
@@ -24,7 +24,7 @@ fn marked_sheets() {
     ] {
         let sheet = sample(name);
         assert_eq!(judge(&sheet), Ok(()), "{name}");
-        assert_eq!(text(&decoder.decode(&sheet)), expected, "{name}");
+        assert_eq!(list_text(&decoder.decode(&sheet)), expected, "{name}");
     }
 }
 
@@ -72,12 +72,12 @@ fn replayed_cases() {
     // Of areas that are too small a decoder has none.
     for case in cases::all(&files).filter(|case| case.number() != 6) {
         let mut limited = Decoder::with_heap_limit(case.heap());
-        assert_eq!(text(&limited.decode(case.sheet())), case.text());
-        let whole = text(&kept.decode(case.sheet()));
+        assert_eq!(list_text(&limited.decode(case.sheet())), case.text());
+        let whole = list_text(&kept.decode(case.sheet()));
         if case.number() != 11 {
             assert_eq!(whole, case.text());
         }
-        assert_eq!(text(&one_slot.decode(case.sheet())), whole);
+        assert_eq!(list_text(&one_slot.decode(case.sheet())), whole);
         compared += 1;
     }
     assert!(compared > 1000, "{compared} cases");

@@ -2,37 +2,16 @@
 #![allow(dead_code)]
 
 pub mod cases;
+#[path = "../../examples/samples/plane.rs"]
+pub mod plane;
+#[path = "../../examples/samples/sheets.rs"]
+pub mod samples;
 
-use hemokatu::{Kind, Match, PathEntry, Point, Refusal, Road, Row, SheetBuilder};
+use hemokatu::{Kind, PathEntry, Point, Road, Row, SheetBuilder};
 
 pub fn sample(name: &str) -> Vec<u8> {
     let path = format!("{}/../sheets/{name}.sheet", env!("CARGO_MANIFEST_DIR"));
     std::fs::read(path).unwrap()
-}
-
-/// An answer as the list program prints it.
-pub fn text(answer: &Result<Match<'_>, Refusal>) -> String {
-    let m = match answer {
-        Ok(m) => m,
-        Err(refusal) => {
-            let (a, b) = refusal.places();
-            return format!("refused {} {a} {b}\n", refusal.number());
-        }
-    };
-    let mut text = format!("path {}\n", m.ids.len());
-    for (id, length) in m.roads() {
-        text += &format!("road {id} {:016x}\n", length.to_bits());
-    }
-    let bits = |v: f64| format!("{:016x}", v.to_bits());
-    text += &format!("length {}\n", bits(m.length_m));
-    text += &format!(
-        "start {} {}\n",
-        bits(m.start_offset),
-        bits(m.start_fraction)
-    );
-    text += &format!("end {} {}\n", bits(m.end_offset), bits(m.end_fraction));
-    text += &format!("primary {} {}\n", m.primary, bits(m.coverage));
-    text
 }
 
 /// A road of class 3, form of way 3.
@@ -44,24 +23,24 @@ pub fn road(id: u64, length_m: f64, source: usize, target: usize) -> Road {
         target,
         frc: 3,
         fow: 3,
-        access: false,
+        ..Road::default()
     }
 }
 
 /// On a road of 100 m.
-pub fn row(road: usize, along: f64) -> Row {
+pub fn row(road: usize, along_m: f64) -> Row {
     Row {
         road,
-        distance: 0.0,
-        bearing: 90.0,
-        along,
-        line: 100.0,
+        distance_m: 0.0,
+        bearing_deg: 90.0,
+        along_m,
+        line_length_m: 100.0,
     }
 }
 
 pub fn point(rows: Vec<Row>) -> Point {
     Point {
-        bearing: 90,
+        bearing_deg: 90,
         frc: 3,
         fow: 3,
         path: None,
@@ -69,9 +48,9 @@ pub fn point(rows: Vec<Row>) -> Point {
     }
 }
 
-pub fn point_to_next(dnp: f64, rows: Vec<Row>) -> Point {
+pub fn point_to_next(dnp_m: f64, rows: Vec<Row>) -> Point {
     Point {
-        path: Some(PathEntry { limit: 3, dnp }),
+        path: Some(PathEntry { lfrcnp: 3, dnp_m }),
         ..point(rows)
     }
 }
@@ -114,40 +93,5 @@ pub fn chain(roads: usize) -> SheetBuilder {
     sheet.point(point_to_next(dnp, vec![row(0, 50.0)]));
     sheet.point(point(vec![row(roads - 1, 50.0)]));
     without_distances(&mut sheet, roads + 1);
-    sheet
-}
-
-/// A search that opens a node 2 to the `turns` times: at each of `turns` nodes the shorter of two ways on seems so far
-/// from the goal that it is tried last, after everything behind the longer one.
-///
-/// ```text
-///  entry → 0 ──────→ 1 ──────→ 2 ─ … ─ turns      the longer way: 1 + 2^(turns - 1 - i) metres
-///          ├─→ side ─┘├─→ side ─┘                  the shorter way: 1 metre in two roads
-///          └──── the way to the goal, longer than all of it ────→ goal → exit
-/// ```
-pub fn misleading(turns: usize) -> SheetBuilder {
-    let side = |i: usize| turns + 1 + i;
-    let [goal, entry, exit] = [0, 1, 2].map(|i| 2 * turns + 1 + i);
-    let nodes = 2 * turns + 4;
-    let mut sheet = SheetBuilder::new(Kind::Line, nodes);
-    let reach = (turns + (1 << turns)) as f64 + 1.0;
-    let way = reach * (turns + 2) as f64;
-    sheet.road(road(700, 100.0, entry, 0));
-    sheet.road(road(701, way, 0, goal));
-    sheet.road(road(702, 100.0, goal, exit));
-    for i in 0..turns {
-        let more = (1 << (turns - 1 - i)) as f64;
-        sheet.road(road(1, 1.0 + more, i, i + 1));
-        sheet.road(road(2, 0.5, i, side(i)));
-        sheet.road(road(3, 0.5, side(i), i + 1));
-    }
-    sheet.point(point_to_next(way + 100.0, vec![row(0, 50.0)]));
-    sheet.point(point(vec![row(2, 50.0)]));
-    without_distances(&mut sheet, nodes);
-    let mut seems = vec![0.0; nodes];
-    for i in 0..turns {
-        seems[side(i)] = reach * (turns - i) as f64;
-    }
-    sheet.goal(goal, seems);
     sheet
 }
