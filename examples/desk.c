@@ -18,7 +18,7 @@ enum {
 // Room for every sheet there is, 696,976 bytes, and the heap beside it. A host with less asks hemokatu_sizes what its
 // sheet needs.
 typedef struct {
-    double real[NODES], penalised[NODES];
+    double labels[2 * NODES];
     size_t came_from[NODES];
     size_t route[ROUTE], best_route[ROUTE];
     size_t covered[LIST];
@@ -27,25 +27,23 @@ typedef struct {
     double lengths[LIST];
 } Areas;
 
-// The four parts of a heap, in one piece of memory.
+// The two parts of a heap, two numbers for each slot, in one piece of memory.
 typedef struct {
     size_t slots;
-    double *key, *cost;
-    size_t *node, *order;
+    double *entries;
+    size_t *links;
 } Heap;
 
 static bool heap_of(size_t slots, Heap *heap) {
-    double *key = malloc(slots * 2 * (sizeof(double) + sizeof(size_t)));
-    if (!key) return false;
-    size_t *node = (size_t *)(key + 2 * slots);
-    *heap = (Heap){slots, key, key + slots, node, node + slots};
+    double *entries = malloc(slots * 2 * (sizeof(double) + sizeof(size_t)));
+    if (!entries) return false;
+    *heap = (Heap){slots, entries, (size_t *)(entries + 2 * slots)};
     return true;
 }
 
 static HemokatuAnswered decode_with(const uint8_t *sheet, size_t len, Areas *w, const Heap *h) {
-    return hemokatu_decode(sheet, len, w->real, NODES, w->penalised, NODES, w->came_from, NODES, w->route, ROUTE, w->best_route, ROUTE,
-                           h->key, h->slots, h->cost, h->slots, h->node, h->slots, h->order, h->slots, w->covered, LIST,
-                           w->coverage, LIST, w->ids, LIST, w->lengths, LIST);
+    return hemokatu_decode(sheet, len, w->labels, 2 * NODES, w->came_from, NODES, w->route, ROUTE, w->best_route, ROUTE, h->entries,
+                           2 * h->slots, h->links, 2 * h->slots, w->covered, LIST, w->coverage, LIST, w->ids, LIST, w->lengths, LIST);
 }
 
 // With a heap of twice the slots as long as a search uses it up. False where there is no memory.
@@ -54,7 +52,7 @@ static bool decode(const uint8_t *sheet, size_t len, Areas *w, HemokatuAnswered 
         Heap heap;
         if (!heap_of(slots, &heap)) return false;
         *r = decode_with(sheet, len, w, &heap);
-        free(heap.key);
+        free(heap.entries);
         if (r->number != HEMOKATU_HEAP_USED_UP) break;
     }
     return true;

@@ -161,11 +161,11 @@ typedef struct {
     size_t place;
 } HemokatuJudgement;
 
-/* The entries that each area must have. */
+/* The entries that each area must have. An entry has two numbers in labels, entries and links, so those are twice as long. */
 typedef struct {
-    size_t node;       /* real, penalised, came_from */
+    size_t node;       /* labels (twice), came_from */
     size_t route;      /* route, best_route */
-    size_t heap_least; /* key, cost, node, order: more let larger searches end */
+    size_t heap_least; /* entries (twice), links (twice): more let larger searches end */
     size_t list;       /* covered, coverage, ids, lengths */
 } HemokatuSizes;
 
@@ -196,18 +196,17 @@ HemokatuSizes hemokatu_sizes(size_t points, size_t nodes);
 
 /* Decodes one sheet.
  * Refusals 1 to 6 leave ids and lengths untouched, refusals 7 to 11 zero them, and a match zeroes what is behind the path.
- * The other areas are for the work: what stands in them before has no part in the answer, and nothing is said of what stands there afterwards. */
+ * The other areas are for the work: what stands in them before has no part in the answer. What stands there afterwards is the
+ * library's choice; no later call reads it before writing. A length is in numbers. An area of several slices is as large as the
+ * least of them, and an odd number at the end of two halves is not used. */
 HemokatuAnswered hemokatu_decode(
     const uint8_t *sheet, size_t sheet_len,        /* the sheet, only read */
-    double *real, size_t real_len,                 /* a search's metres to each node */
-    double *penalised, size_t penalised_len,       /* the same with penalties */
+    double *labels, size_t labels_len,             /* 2 x node: a search's metres to each node, then the same with penalties */
     size_t *came_from, size_t came_from_len,       /* the road by which it came to each node */
     size_t *route, size_t route_len,               /* the roads of the pair in hand */
     size_t *best_route, size_t best_route_len,     /* the roads of the best pair so far */
-    double *key, size_t key_len,                   /* the heap's entries: what they are ordered by, */
-    double *cost, size_t cost_len,                 /* their penalised metres, */
-    size_t *node, size_t node_len,                 /* their nodes, */
-    size_t *order, size_t order_len,               /* and the heap of their numbers */
+    double *entries, size_t entries_len,           /* 2 x heap: what its entries are ordered by, then their penalised metres */
+    size_t *links, size_t links_len,               /* 2 x heap: the heap of their numbers, then their nodes */
     size_t *covered, size_t covered_len,           /* the roads covered, in order of first traversal, */
     double *coverage, size_t coverage_len,         /* and the metres covered of each */
     uint64_t *ids, size_t ids_len,                 /* answer list: the ids of the path's roads */

@@ -40,24 +40,18 @@ extern "C" {
     fn hemokatu_decode(
         sheet: *const u8,
         sheet_len: usize,
-        real: *mut f64,
-        real_len: usize,
-        penalised: *mut f64,
-        penalised_len: usize,
+        labels: *mut f64,
+        labels_len: usize,
         came_from: *mut usize,
         came_from_len: usize,
         route: *mut usize,
         route_len: usize,
         best_route: *mut usize,
         best_route_len: usize,
-        key: *mut f64,
-        key_len: usize,
-        cost: *mut f64,
-        cost_len: usize,
-        node: *mut usize,
-        node_len: usize,
-        order: *mut usize,
-        order_len: usize,
+        entries: *mut f64,
+        entries_len: usize,
+        links: *mut usize,
+        links_len: usize,
         covered: *mut usize,
         covered_len: usize,
         coverage: *mut f64,
@@ -87,15 +81,12 @@ pub fn sizes(points: usize, nodes: usize) -> Sizes {
 /// What a call is lent beside the sheet. The areas grow to the largest sheet and are kept.
 #[derive(Default)]
 pub struct Areas {
-    real: Vec<f64>,
-    penalised: Vec<f64>,
+    labels: Vec<f64>,
     came_from: Vec<usize>,
     route: Vec<usize>,
     best_route: Vec<usize>,
-    key: Vec<f64>,
-    cost: Vec<f64>,
-    node: Vec<usize>,
-    order: Vec<usize>,
+    entries: Vec<f64>,
+    links: Vec<usize>,
     covered: Vec<usize>,
     coverage: Vec<f64>,
     ids: Vec<u64>,
@@ -105,15 +96,12 @@ pub struct Areas {
 impl Areas {
     /// One call. It is lent what is needed and no more, since it zeroes the answer lists to their end.
     pub fn decode(&mut self, sheet: &[u8], sizes: &crate::Sizes, heap: usize) -> Answered {
-        let real = front(&mut self.real, sizes.node);
-        let penalised = front(&mut self.penalised, sizes.node);
+        let labels = front(&mut self.labels, 2 * sizes.node);
         let came_from = front(&mut self.came_from, sizes.node);
         let route = front(&mut self.route, sizes.route);
         let best_route = front(&mut self.best_route, sizes.route);
-        let key = front(&mut self.key, heap);
-        let cost = front(&mut self.cost, heap);
-        let node = front(&mut self.node, heap);
-        let order = front(&mut self.order, heap);
+        let entries = front(&mut self.entries, 2 * heap);
+        let links = front(&mut self.links, 2 * heap);
         let covered = front(&mut self.covered, sizes.list);
         let coverage = front(&mut self.coverage, sizes.list);
         let ids = front(&mut self.ids, sizes.list);
@@ -124,24 +112,18 @@ impl Areas {
             hemokatu_decode(
                 sheet.as_ptr(),
                 sheet.len(),
-                real.as_mut_ptr(),
-                real.len(),
-                penalised.as_mut_ptr(),
-                penalised.len(),
+                labels.as_mut_ptr(),
+                labels.len(),
                 came_from.as_mut_ptr(),
                 came_from.len(),
                 route.as_mut_ptr(),
                 route.len(),
                 best_route.as_mut_ptr(),
                 best_route.len(),
-                key.as_mut_ptr(),
-                key.len(),
-                cost.as_mut_ptr(),
-                cost.len(),
-                node.as_mut_ptr(),
-                node.len(),
-                order.as_mut_ptr(),
-                order.len(),
+                entries.as_mut_ptr(),
+                entries.len(),
+                links.as_mut_ptr(),
+                links.len(),
                 covered.as_mut_ptr(),
                 covered.len(),
                 coverage.as_mut_ptr(),
@@ -161,11 +143,10 @@ impl Areas {
 
     /// The bytes that all areas hold; every entry has 8.
     pub fn bytes(&self) -> usize {
-        let reals = [&self.real, &self.penalised, &self.key, &self.cost];
-        let metres = [&self.coverage, &self.lengths];
+        let reals = [&self.labels, &self.entries, &self.coverage, &self.lengths];
         let numbers = [&self.came_from, &self.route, &self.best_route];
-        let more = [&self.node, &self.order, &self.covered];
-        let reals = reals.into_iter().chain(metres).map(Vec::capacity);
+        let more = [&self.links, &self.covered];
+        let reals = reals.into_iter().map(Vec::capacity);
         let numbers = numbers.into_iter().chain(more).map(Vec::capacity);
         8 * (reals.chain(numbers).sum::<usize>() + self.ids.capacity())
     }
