@@ -13,7 +13,7 @@ ghost use Rattle.model.specs.Sheet.{sheet-of, road-at};
 ghost use Rattle.model.specs.Call.{Lists, written, roomy};
 ghost use Rattle.answers.specs.Room.{areas-of, lists};
 
-// The sizes of the lent areas, each the least of its slices' lengths, and of the answer lists.
+// The sizes of the lent areas in entries, each the least of its slices', and of the answer lists.
 pub struct Sizes {
     pub node: usize,
     pub route: usize,

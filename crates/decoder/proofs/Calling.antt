@@ -1,5 +1,5 @@
 -- The call, by what refusals 1 to 6 leave.
-use Prim.Native.Nat.{ℕ, min}
+use Prim.Native.Nat.{ℕ, _/_, min}
 use mathlib.Core.Path.{_≡_, sym}
 use mathlib.Core.List.{List}
 use lib.ListN.{length}
@@ -47,7 +47,7 @@ module _ (s : List ℕ) (a : Sizes) (x : Opened) (opens : Opens s a x) (ids : Li
     call-sheet = sym (opens-sheet .2 (lists ids lengths) (ids-long, lengths-long))
 
 -- the areas by the least of their slices
-pub areas-are : (a : Sizes) (real penalised came-from route best-route key cost node order covered coverage behind first second : ℕ)
-    → behind ≡ min penalised came-from → a .node ≡ min real behind → a .route ≡ min route best-route → first ≡ min key cost → second ≡ min node order → a .heap ≡ min first second → a .coverage ≡ min covered coverage
-    → areas-of a ≡ areas real penalised came-from route best-route key cost node order covered coverage
-areas-are a real penalised came-from route best-route key cost node order covered coverage behind first second b n r f s h c = rw (n, b, r, h, f, s, c)
+pub areas-are : (a : Sizes) (labels came-from route best-route entries links covered coverage : ℕ)
+    → a .node ≡ min (labels / 2) came-from → a .route ≡ min route best-route → a .heap ≡ min (entries / 2) (links / 2) → a .coverage ≡ min covered coverage
+    → areas-of a ≡ areas labels came-from route best-route entries links covered coverage
+areas-are a labels came-from route best-route entries links covered coverage n r h c = rw (n, r, h, c)

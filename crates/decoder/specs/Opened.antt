@@ -1,5 +1,5 @@
 -- The lent areas of a call, and what refusals 1 to 6 leave.
-use Prim.Native.Nat.{ℕ, _+_, _≤_, min}
+use Prim.Native.Nat.{ℕ, _+_, _/_, _≤_, min}
 use mathlib.Core.Path.{_≡_}
 use mathlib.Core.List.{List}
 use lib.ListN.{length}
@@ -15,12 +15,12 @@ use Rattle.answers.specs.Room.{areas-of}
 use Rattle.decoder.specs.declared.Opened.{Opened}
 use Rattle.decoder.specs.declared.Opened.the-variants as O
 
--- an area of several slices is as large as the least of them
-abbrev pub areas : ℕ → ℕ → ℕ → ℕ → ℕ → ℕ → ℕ → ℕ → ℕ → ℕ → ℕ → Areas
-areas real penalised came-from route best-route key cost node order covered coverage = record {
-  node = min real (min penalised came-from);
+-- an area of several slices is as large as the least of them; some have two places for an entry
+abbrev pub areas : ℕ → ℕ → ℕ → ℕ → ℕ → ℕ → ℕ → ℕ → Areas
+areas labels came-from route best-route entries links covered coverage = record {
+  node = min (labels / 2) came-from;
   route = min route best-route;
-  heap = min (min key cost) (min node order);
+  heap = min (entries / 2) (links / 2);
   coverage = min covered coverage;
 }
 

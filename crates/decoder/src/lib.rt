@@ -53,15 +53,12 @@ fn decode_sheet(
     s: &[u8],
     c: Counts,
     slots: usize,
-    real: &mut [f64],
-    penalised: &mut [f64],
+    labels: &mut [f64],
     came_from: &mut [usize],
     route: &mut [usize],
     best_route: &mut [usize],
-    key: &mut [f64],
-    cost: &mut [f64],
-    node: &mut [usize],
-    order: &mut [usize],
+    entries: &mut [f64],
+    links: &mut [usize],
     covered: &mut [usize],
     coverage: &mut [f64],
     ids: &mut [u64],
@@ -69,7 +66,7 @@ fn decode_sheet(
 ) -> Answer
     requires { ⌜ WellFormed (now s) c ⌝ }
     requires { ⌜ (most-entries (c .p) (c .n) ≤ length (now covered)) × (most-entries (c .p) (c .n) ≤ length (now coverage)) × (most-entries (c .p) (c .n) ≤ length (now ids)) × (most-entries (c .p) (c .n) ≤ length (now lengths)) ⌝ }
-    requires { ⌜ (0 < slots) × (c .n ≤ length (now route)) × (c .n ≤ length (now «best_route»)) × Sized (c .n) slots (columns (now real) (now penalised) (now «came_from») (now key) (now cost) (now node) (now order) 0 0) ⌝ }
+    requires { ⌜ (0 < slots) × (c .n ≤ length (now route)) × (c .n ≤ length (now «best_route»)) × Sized (c .n) slots (columns (c .n) slots (now labels) (now «came_from») (now entries) (now links) 0 0) ⌝ }
     ensures { λ r. ⌜ decoded r (now (ids .exit)) (now (lengths .exit))
         ≡ answered (sheet-of (now (s .entry)) c) (lists (now (ids .entry)) (now (lengths .entry))) (outcome (view (sheet-of (now (s .entry)) c)) (bounded-astar slots)) ⌝ }
 {
@@ -78,15 +75,12 @@ fn decode_sheet(
         s,
         c,
         slots,
-        real,
-        penalised,
+        labels,
         came_from,
         route,
         best_route,
-        key,
-        cost,
-        node,
-        order,
+        entries,
+        links,
         covered,
         coverage,
         ids,
@@ -97,15 +91,12 @@ fn decode_sheet(
 // One call, on any bytes and any areas. Refusals 1 to 6 leave both answer lists untouched; 7 to 11 zero them; a match zeroes the entries after the path. What stands in the work areas before has no part in the answer, and nothing is said of what stands there afterwards.
 pub fn decode(
     sheet: &[u8],
-    real: &mut [f64],
-    penalised: &mut [f64],
+    labels: &mut [f64],
     came_from: &mut [usize],
     route: &mut [usize],
     best_route: &mut [usize],
-    key: &mut [f64],
-    cost: &mut [f64],
-    node: &mut [usize],
-    order: &mut [usize],
+    entries: &mut [f64],
+    links: &mut [usize],
     covered: &mut [usize],
     coverage: &mut [f64],
     ids: &mut [u64],
@@ -113,12 +104,12 @@ pub fn decode(
 ) -> Answer
     ensures { λ r. ⌜ decoded r (now (ids .exit)) (now (lengths .exit))
         ≡ decode (now (sheet .entry))
-        (areas (length (now (real .entry))) (length (now (penalised .entry))) (length (now («came_from» .entry))) (length (now (route .entry))) (length (now («best_route» .entry))) (length (now (key .entry))) (length (now (cost .entry))) (length (now (node .entry))) (length (now (order .entry))) (length (now (covered .entry))) (length (now (coverage .entry))))
+        (areas (length (now (labels .entry))) (length (now («came_from» .entry))) (length (now (route .entry))) (length (now («best_route» .entry))) (length (now (entries .entry))) (length (now (links .entry))) (length (now (covered .entry))) (length (now (coverage .entry))))
         (lists (now (ids .entry)) (now (lengths .entry))) ⌝ }
 {
-    let nodes = least(real.len(), least(penalised.len(), came_from.len()));
+    let nodes = least(labels.len() / 2, came_from.len());
     let routes = least(route.len(), best_route.len());
-    let slots = least(least(key.len(), cost.len()), least(node.len(), order.len()));
+    let slots = least(entries.len() / 2, links.len() / 2);
     let coverages = least(covered.len(), coverage.len());
     let sizes = Sizes {
         node: nodes,
@@ -135,15 +126,12 @@ pub fn decode(
             sheet,
             c,
             slots,
-            real,
-            penalised,
+            labels,
             came_from,
             route,
             best_route,
-            key,
-            cost,
-            node,
-            order,
+            entries,
+            links,
             covered,
             coverage,
             ids,

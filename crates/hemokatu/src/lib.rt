@@ -31,7 +31,7 @@ pub extern "C" fn hemokatu_judge(sheet: &[u8]) -> Judgement
     }
 }
 
-// The least entries of each area for a sheet of some points and nodes: a node area, a route area, the heap, and the coverage area or an answer list. A larger heap lets larger searches end.
+// The least entries of each area for a sheet of some points and nodes: a node area, a route area, the heap, and the coverage area or an answer list. An entry has two places in `labels`, `entries` and `links`. A larger heap lets larger searches end.
 #[repr(C)]
 pub struct Sizes {
     pub node: usize,
@@ -122,15 +122,12 @@ fn face(answer: Answer) -> Answered
 #[no_mangle]
 pub extern "C" fn hemokatu_decode(
     sheet: &[u8],
-    real: &mut [f64],
-    penalised: &mut [f64],
+    labels: &mut [f64],
     came_from: &mut [usize],
     route: &mut [usize],
     best_route: &mut [usize],
-    key: &mut [f64],
-    cost: &mut [f64],
-    node: &mut [usize],
-    order: &mut [usize],
+    entries: &mut [f64],
+    links: &mut [usize],
     covered: &mut [usize],
     coverage: &mut [f64],
     ids: &mut [u64],
@@ -138,20 +135,17 @@ pub extern "C" fn hemokatu_decode(
 ) -> Answered
     ensures { λ r. ⌜ Answers r (now (ids .exit)) (now (lengths .exit))
         (decode (now (sheet .entry))
-        (areas (length (now (real .entry))) (length (now (penalised .entry))) (length (now («came_from» .entry))) (length (now (route .entry))) (length (now («best_route» .entry))) (length (now (key .entry))) (length (now (cost .entry))) (length (now (node .entry))) (length (now (order .entry))) (length (now (covered .entry))) (length (now (coverage .entry))))
+        (areas (length (now (labels .entry))) (length (now («came_from» .entry))) (length (now (route .entry))) (length (now («best_route» .entry))) (length (now (entries .entry))) (length (now (links .entry))) (length (now (covered .entry))) (length (now (coverage .entry))))
         (lists (now (ids .entry)) (now (lengths .entry)))) ⌝ }
 {
     let found = decoder::decode(
         sheet,
-        real,
-        penalised,
+        labels,
         came_from,
         route,
         best_route,
-        key,
-        cost,
-        node,
-        order,
+        entries,
+        links,
         covered,
         coverage,
         ids,

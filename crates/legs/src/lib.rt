@@ -66,18 +66,15 @@ pub fn find_best_path(
     starts: Candidates,
     ends: Candidates,
     slots: usize,
-    real: &mut [f64],
-    penalised: &mut [f64],
+    labels: &mut [f64],
     came_from: &mut [usize],
     route: &mut [usize],
     best_route: &mut [usize],
-    key: &mut [f64],
-    cost: &mut [f64],
-    node: &mut [usize],
-    order: &mut [usize],
+    entries: &mut [f64],
+    links: &mut [usize],
 ) -> Sought
     requires { ⌜ WellFormed (now s) c × (set ≡ sheet-of (now s) c .settings) × (0 < c .n) × Ready c starts × Ready c ends ⌝ }
-    requires { ⌜ (0 < slots) × (c .n ≤ length (now route)) × (c .n ≤ length (now «best_route»)) × Sized (c .n) slots (columns (now real) (now penalised) (now «came_from») (now key) (now cost) (now node) (now order) 0 0) ⌝ }
+    requires { ⌜ (0 < slots) × (c .n ≤ length (now route)) × (c .n ≤ length (now «best_route»)) × Sized (c .n) slots (columns (c .n) slots (now labels) (now «came_from») (now entries) (now links) 0 0) ⌝ }
     ensures means { λ r. ⌜ sought-of (road-at (sheet-of (now (s .entry)) c)) r (now («best_route» .exit))
         ≡ find-best-path b (seek-at (sheet-of (now (s .entry)) c) slots b) (held (sheet-of (now (s .entry)) c) starts) (held (sheet-of (now (s .entry)) c) ends) ⌝ }
     ensures holds { λ r. ⌜ Holds (c .n) (c .e) r (now («best_route» .exit)) ⌝ }
@@ -95,15 +92,12 @@ pub fn find_best_path(
         starts,
         ends,
         slots,
-        real,
-        penalised,
+        labels,
         came_from,
         route,
         best_route,
-        key,
-        cost,
-        node,
-        order,
+        entries,
+        links,
     );
     ended(st)
 }

@@ -65,17 +65,14 @@ pub fn middle(
     start: usize,
     goal: usize,
     slots: usize,
-    real: &mut [f64],
-    penalised: &mut [f64],
+    labels: &mut [f64],
     came_from: &mut [usize],
     route: &mut [usize],
-    key: &mut [f64],
-    cost: &mut [f64],
-    node: &mut [usize],
-    order: &mut [usize],
+    entries: &mut [f64],
+    links: &mut [usize],
 ) -> Middle
     requires { ⌜ WellFormed (now s) c × (set ≡ sheet-of (now s) c .settings) × (start < c .n) × (goal < c .n) ⌝ }
-    requires { ⌜ (0 < slots) × (c .n ≤ length (now route)) × Sized (c .n) slots (columns (now real) (now penalised) (now «came_from») (now key) (now cost) (now node) (now order) 0 0) ⌝ }
+    requires { ⌜ (0 < slots) × (c .n ≤ length (now route)) × Sized (c .n) slots (columns (c .n) slots (now labels) (now «came_from») (now entries) (now links) 0 0) ⌝ }
     ensures means { λ m. ⌜ found-of (road-at (sheet-of (now (s .entry)) c)) m (now (route .exit)) ≡ by-ask (seek-at (sheet-of (now (s .entry)) c) slots b start goal) a ⌝ }
     ensures spans { λ m. ⌜ Spans (c .n) (c .e) m (now (route .exit)) ⌝ }
 {
@@ -96,14 +93,11 @@ pub fn middle(
                 c,
                 ask,
                 slots,
-                real,
-                penalised,
+                labels,
                 came_from,
                 route,
-                key,
-                cost,
-                node,
-                order,
+                entries,
+                links,
             );
             let end = found.search;
             middle_of(end)

@@ -36,18 +36,15 @@ pub fn try_pair(
     end: Candidate,
     best: Best,
     slots: usize,
-    real: &mut [f64],
-    penalised: &mut [f64],
+    labels: &mut [f64],
     came_from: &mut [usize],
     route: &mut [usize],
     best_route: &mut [usize],
-    key: &mut [f64],
-    cost: &mut [f64],
-    node: &mut [usize],
-    order: &mut [usize],
+    entries: &mut [f64],
+    links: &mut [usize],
 ) -> State
     requires { ⌜ WellFormed (now s) c × (set ≡ sheet-of (now s) c .settings) × (start .road < c .e) × (end .road < c .e) × Fits (c .n) (c .e) best (now «best_route») ⌝ }
-    requires { ⌜ (0 < slots) × (c .n ≤ length (now route)) × (c .n ≤ length (now «best_route»)) × Sized (c .n) slots (columns (now real) (now penalised) (now «came_from») (now key) (now cost) (now node) (now order) 0 0) ⌝ }
+    requires { ⌜ (0 < slots) × (c .n ≤ length (now route)) × (c .n ≤ length (now «best_route»)) × Sized (c .n) slots (columns (c .n) slots (now labels) (now «came_from») (now entries) (now links) 0 0) ⌝ }
     ensures means { λ t. ⌜ turn-of (t .phase) (best-of (road-at (sheet-of (now (s .entry)) c)) (t .best) (now («best_route» .exit)))
         ≡ try-pair b (seek-at (sheet-of (now (s .entry)) c) slots b) (best-of (road-at (sheet-of (now (s .entry)) c)) best (now («best_route» .entry))) (pair (at-road (sheet-of (now (s .entry)) c) start) (at-road (sheet-of (now (s .entry)) c) end)) ⌝ }
     ensures fits { λ t. ⌜ Fits (c .n) (c .e) (t .best) (now («best_route» .exit)) ⌝ }
@@ -67,14 +64,11 @@ pub fn try_pair(
         first.target,
         last.source,
         slots,
-        real,
-        penalised,
+        labels,
         came_from,
         route,
-        key,
-        cost,
-        node,
-        order,
+        entries,
+        links,
     );
     let t = turns::settle(b, start, first, end, last, best, p, m);
     middle::keep_roads(best_route, route, t.taken);
@@ -101,18 +95,15 @@ pub fn try_pairs(
     starts: Candidates,
     ends: Candidates,
     slots: usize,
-    real: &mut [f64],
-    penalised: &mut [f64],
+    labels: &mut [f64],
     came_from: &mut [usize],
     route: &mut [usize],
     best_route: &mut [usize],
-    key: &mut [f64],
-    cost: &mut [f64],
-    node: &mut [usize],
-    order: &mut [usize],
+    entries: &mut [f64],
+    links: &mut [usize],
 ) -> State
     requires { ⌜ WellFormed (now s) c × (set ≡ sheet-of (now s) c .settings) × Ready c starts × Ready c ends ⌝ }
-    requires { ⌜ (0 < slots) × (c .n ≤ length (now route)) × (c .n ≤ length (now «best_route»)) × Sized (c .n) slots (columns (now real) (now penalised) (now «came_from») (now key) (now cost) (now node) (now order) 0 0) ⌝ }
+    requires { ⌜ (0 < slots) × (c .n ≤ length (now route)) × (c .n ≤ length (now «best_route»)) × Sized (c .n) slots (columns (c .n) slots (now labels) (now «came_from») (now entries) (now links) 0 0) ⌝ }
     ensures means { λ t. ⌜ end-of (road-at (sheet-of (now (s .entry)) c)) t (now («best_route» .exit))
         ≡ try-pairs b (seek-at (sheet-of (now (s .entry)) c) slots b) (sort by-sum (pairs (held (sheet-of (now (s .entry)) c) starts) (held (sheet-of (now (s .entry)) c) ends))) none ⌝ }
     ensures fits { λ t. ⌜ Fits (c .n) (c .e) (t .best) (now («best_route» .exit)) ⌝ }
@@ -155,15 +146,12 @@ pub fn try_pairs(
             last,
             best,
             slots,
-            real,
-            penalised,
+            labels,
             came_from,
             route,
             best_route,
-            key,
-            cost,
-            node,
-            order,
+            entries,
+            links,
         );
         let phase = st.phase;
         t = next_place(phase, t, count);

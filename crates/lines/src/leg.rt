@@ -84,22 +84,19 @@ pub fn walk_leg(
     last: Last,
     n0: usize,
     slots: usize,
-    real: &mut [f64],
-    penalised: &mut [f64],
+    labels: &mut [f64],
     came_from: &mut [usize],
     route: &mut [usize],
     best_route: &mut [usize],
-    key: &mut [f64],
-    cost: &mut [f64],
-    node: &mut [usize],
-    order: &mut [usize],
+    entries: &mut [f64],
+    links: &mut [usize],
     covered: &mut [usize],
     coverage: &mut [f64],
     out: &mut [u64],
 ) -> LegEnd
     requires { ⌜ WellFormed (now s) c × (set ≡ sheet-of (now s) c .settings) × (0 < c .n) × (i + 1 < c .p) × Numbers (c .e) n0 (now covered) × Lists (sheet-of (now s) c) c i starts × Lists (sheet-of (now s) c) c (i + 1) ends ⌝ }
     requires { ⌜ (n0 + c .n + 1 ≤ length (now covered)) × (n0 + c .n + 1 ≤ length (now coverage)) × (c .n + 1 ≤ length (now out)) ⌝ }
-    requires { ⌜ (0 < slots) × (c .n ≤ length (now route)) × (c .n ≤ length (now «best_route»)) × Sized (c .n) slots (columns (now real) (now penalised) (now «came_from») (now key) (now cost) (now node) (now order) 0 0) ⌝ }
+    requires { ⌜ (0 < slots) × (c .n ≤ length (now route)) × (c .n ≤ length (now «best_route»)) × Sized (c .n) slots (columns (c .n) slots (now labels) (now «came_from») (now entries) (now links) 0 0) ⌝ }
     ensures { λ r. ⌜ Leaves (sheet-of (now (s .entry)) c) c summed (leg-limits (sheet-of (now (s .entry)) c) i .dnp) (last-of last) (coverages-at (sheet-of (now (s .entry)) c) n0 (now (covered .entry)) (now (coverage .entry))) n0
         (leg-sought (sheet-of (now (s .entry)) c) slots i) (now (out .exit)) (now (covered .exit)) (now (coverage .exit)) r ⌝ }
 {
@@ -112,15 +109,12 @@ pub fn walk_leg(
         starts,
         ends,
         slots,
-        real,
-        penalised,
+        labels,
         came_from,
         route,
         best_route,
-        key,
-        cost,
-        node,
-        order,
+        entries,
+        links,
     );
     leave(
         s,

@@ -22,22 +22,19 @@ pub fn decode_line(
     c: Counts,
     set: Settings,
     slots: usize,
-    real: &mut [f64],
-    penalised: &mut [f64],
+    labels: &mut [f64],
     came_from: &mut [usize],
     route: &mut [usize],
     best_route: &mut [usize],
-    key: &mut [f64],
-    cost: &mut [f64],
-    node: &mut [usize],
-    order: &mut [usize],
+    entries: &mut [f64],
+    links: &mut [usize],
     covered: &mut [usize],
     coverage: &mut [f64],
     ids: &mut [u64],
 ) -> Legs
     requires { ⌜ WellFormed (now s) c × (set ≡ sheet-of (now s) c .settings) × (0 < c .n) × (0 < c .p) ⌝ }
     requires { ⌜ (most-entries (c .p) (c .n) ≤ length (now covered)) × (most-entries (c .p) (c .n) ≤ length (now coverage)) × (most-entries (c .p) (c .n) ≤ length (now ids)) ⌝ }
-    requires { ⌜ (0 < slots) × (c .n ≤ length (now route)) × (c .n ≤ length (now «best_route»)) × Sized (c .n) slots (columns (now real) (now penalised) (now «came_from») (now key) (now cost) (now node) (now order) 0 0) ⌝ }
+    requires { ⌜ (0 < slots) × (c .n ≤ length (now route)) × (c .n ≤ length (now «best_route»)) × Sized (c .n) slots (columns (c .n) slots (now labels) (now «came_from») (now entries) (now links) 0 0) ⌝ }
     ensures { λ r. ⌜ Ends (sheet-of (now (s .entry)) c) c (line (sheet-of (now (s .entry)) c) slots) (now (ids .exit)) (now (covered .exit)) (now (coverage .exit)) (r .end) (r .course) ⌝ }
 {
     let points = c.p;
@@ -60,15 +57,12 @@ pub fn decode_line(
             last,
             n0,
             slots,
-            real,
-            penalised,
+            labels,
             came_from,
             route,
             best_route,
-            key,
-            cost,
-            node,
-            order,
+            entries,
+            links,
             covered,
             coverage,
             &mut ids[at..],
@@ -85,22 +79,19 @@ pub fn decode_point_along_line(
     c: Counts,
     set: Settings,
     slots: usize,
-    real: &mut [f64],
-    penalised: &mut [f64],
+    labels: &mut [f64],
     came_from: &mut [usize],
     route: &mut [usize],
     best_route: &mut [usize],
-    key: &mut [f64],
-    cost: &mut [f64],
-    node: &mut [usize],
-    order: &mut [usize],
+    entries: &mut [f64],
+    links: &mut [usize],
     covered: &mut [usize],
     coverage: &mut [f64],
     ids: &mut [u64],
 ) -> Legs
     requires { ⌜ WellFormed (now s) c × (set ≡ sheet-of (now s) c .settings) × (0 < c .n) × (c .p ≡ 2) ⌝ }
     requires { ⌜ (most-entries (c .p) (c .n) ≤ length (now covered)) × (most-entries (c .p) (c .n) ≤ length (now coverage)) × (most-entries (c .p) (c .n) ≤ length (now ids)) ⌝ }
-    requires { ⌜ (0 < slots) × (c .n ≤ length (now route)) × (c .n ≤ length (now «best_route»)) × Sized (c .n) slots (columns (now real) (now penalised) (now «came_from») (now key) (now cost) (now node) (now order) 0 0) ⌝ }
+    requires { ⌜ (0 < slots) × (c .n ≤ length (now route)) × (c .n ≤ length (now «best_route»)) × Sized (c .n) slots (columns (c .n) slots (now labels) (now «came_from») (now entries) (now links) 0 0) ⌝ }
     ensures { λ r. ⌜ Ends (sheet-of (now (s .entry)) c) c (point-along-line (sheet-of (now (s .entry)) c) slots) (now (ids .exit)) (now (covered .exit)) (now (coverage .exit)) (r .end) (r .course) ⌝ }
 {
     let run = steps::begin();
@@ -117,15 +108,12 @@ pub fn decode_point_along_line(
         Last::Nothing,
         0,
         slots,
-        real,
-        penalised,
+        labels,
         came_from,
         route,
         best_route,
-        key,
-        cost,
-        node,
-        order,
+        entries,
+        links,
         covered,
         coverage,
         ids,

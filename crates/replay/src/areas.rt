@@ -28,3 +28,16 @@ pub fn identifiers() -> [u64; 1024]
 {
     [ID; 1024]
 }
+
+// An area of two halves.
+pub fn metres_twice() -> [f64; 2048]
+    ensures { λ r. ⌜ 2048 ≡ length r ⌝ }
+{
+    [LENGTH; 2048]
+}
+
+pub fn numbers_twice() -> [usize; 2048]
+    ensures { λ r. ⌜ 2048 ≡ length r ⌝ }
+{
+    [7; 2048]
+}

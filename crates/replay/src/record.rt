@@ -1,5 +1,5 @@
 // A case's record, 56 bytes: u32 place and length of the sheet, place of the answer, roads of the path, number of the refusal (0: a match), A, B;
-// u16 entries of the thirteen lent areas, in the order of the call; u16 1 where the lists stay untouched, 0 where zeros stand behind the path.
+// u16 entries of thirteen areas, in the order of the call, each half of an area of two halves for itself; u16 1 where the lists stay untouched, 0 where zeros stand behind the path.
 // The answer of a match: length, offset and fraction at the start, offset and fraction at the end, u64 id of the primary road, its coverage; then u64 id and length of each road. An f64 is stored by its bits.
 use crate::areas::MOST;
 use fields::count_at;
@@ -44,6 +44,16 @@ pub fn size_at(file: &[u8], at: usize, k: usize) -> usize
 {
     let size = u16_at(file, at + 28 + 2 * k) as usize;
     if size < MOST { size } else { MOST }
+}
+
+// The places of an area whose halves are the areas k and k + 1: twice the lesser of their entries.
+pub fn halves_at(file: &[u8], at: usize, k: usize) -> usize
+    requires { ⌜ (at + 56 ≤ length (now file)) × (k + 1 < 13) ⌝ }
+    ensures { λ r. ⌜ r ≤ 2048 ⌝ }
+{
+    let a = size_at(file, at, k);
+    let b = size_at(file, at, k + 1);
+    if a < b { 2 * a } else { 2 * b }
 }
 
 // Whether every area has at most MOST entries.

@@ -89,30 +89,24 @@ fn print_refusal(number: usize, a: usize, b: usize) {
 
 // One call, with the areas that this program lends, and its answer printed.
 fn answer(sheet: &[u8]) {
-    let mut real = [0.0; 64];
-    let mut penalised = [0.0; 64];
+    let mut labels = [0.0; 128];
     let mut came_from = [0usize; 64];
     let mut route = [0usize; 65];
     let mut best_route = [0usize; 65];
-    let mut key = [0.0; 128];
-    let mut cost = [0.0; 128];
-    let mut node = [0usize; 128];
-    let mut order = [0usize; 128];
+    let mut entries = [0.0; 256];
+    let mut links = [0usize; 256];
     let mut covered = [0usize; 256];
     let mut coverage = [0.0; 256];
     let mut ids = [0u64; 256];
     let mut lengths = [0.0; 256];
     let found = decoder::decode(
         sheet,
-        &mut real,
-        &mut penalised,
+        &mut labels,
         &mut came_from,
         &mut route,
         &mut best_route,
-        &mut key,
-        &mut cost,
-        &mut node,
-        &mut order,
+        &mut entries,
+        &mut links,
         &mut covered,
         &mut coverage,
         &mut ids,

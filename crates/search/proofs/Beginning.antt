@@ -1,6 +1,6 @@
 -- The areas with which a search begins: came_from filled with one mark, and the start's label and entry.
 use Prim.Native.Nat.{ℕ, zero, suc, _+_, _≤_, _<_}
-use mathlib.Core.Path.{_≡_, ap, _∙_}
+use mathlib.Core.Path.{_≡_, sym, ap, _∙_, subst}
 use mathlib.Core.Logic.{inl, inr}
 use mathlib.Core.Option.{none, some}
 use mathlib.Core.List.{List, _++_}
@@ -13,8 +13,9 @@ use Rattle.model.specs.Numbers.{f0}
 use Rattle.model.specs.Lists.{tab}
 use Rattle.model.specs.Search.{Query, begun}
 use Rattle.bounds.proofs.Choices.{same-or-other}
-use Rattle.search.specs.Areas.{unreached, at-start, came-by, marked, label-of, labels-of, entries-of, columns, state-of, Sized, Mark, Proper}
+use Rattle.search.specs.Areas.{unreached, at-start, came-by, marked, label-of, labels-of, entries-of, Columns, parts, columns, state-of, Sized, Mark, Proper}
 use Rattle.search.proofs.Tables.{table-alike}
+use Rattle.search.proofs.Halves.{first-half, second-half}
 use Rattle.search.proofs.Labels.{marked-none, marked-some, labels-set}
 use Rattle.search.proofs.Entries.{entries-more}
 
@@ -36,7 +37,7 @@ module _ (n start : ℕ) (real penalised : List Float) (came : List ℕ) (key co
   abbrev came₁ : List ℕ
   came₁ = set (filled n unreached came) start at-start
 
-  module _ (roads : ℕ → Road) (q : Query) (nodes : q .nodes ≡ n) (far : q .ahead start ≡ ahead) (fits : Sized n 1 (columns real penalised came key cost node order 0 0)) where
+  module _ (roads : ℕ → Road) (q : Query) (nodes : q .nodes ≡ n) (far : q .ahead start ≡ ahead) (fits : Sized n 1 (parts real penalised came key cost node order 0 0)) where
     none-reached : labels-of roads n real penalised (filled n unreached came) ≡ replicate n none
     unfolding labels-of
     none-reached = table-alike n (label-of roads real penalised (filled n unreached came)) none (λ k h. marked-none roads _ _ _ (getD-filled unreached n came k 0 h))
@@ -59,10 +60,10 @@ module _ (n start : ℕ) (real penalised : List Float) (came : List ℕ) (key co
     unfolding begun
     begun-heap = take-suc-set order 0 0 (fits .order)
 
-    pub begun-state : state-of roads n (columns (set real start f0) (set penalised start f0) came₁ (set key 0 ahead) (set cost 0 f0) (set node 0 start) (set order 0 0) 1 1) ≡ begun q start
-    begun-state = λ i. record { labels = begun-labels i; made = begun-entries i; heap = begun-heap i }
+    first-state : state-of roads n (parts (set real start f0) (set penalised start f0) came₁ (set key 0 ahead) (set cost 0 f0) (set node 0 start) (set order 0 0) 1 1) ≡ begun q start
+    first-state = λ i. record { labels = begun-labels i; made = begun-entries i; heap = begun-heap i }
 
-  module _ (e slots : ℕ) (one : 0 < slots) (fits : Sized n slots (columns real penalised came key cost node order 0 0)) where
+  module _ (e slots : ℕ) (one : 0 < slots) (fits : Sized n slots (parts real penalised came key cost node order 0 0)) where
     came-size : length came₁ ≡ length came
     came-size = length-set (filled n unreached came) start at-start ∙ length-filled unreached n came (fits .came)
 
@@ -83,8 +84,8 @@ module _ (n start : ℕ) (real penalised : List Float) (came : List ℕ) (key co
     first-number zero h = omega (arith, getD-set-same order 0 0 0 (omega (arith, fits .order)))
     first-number (suc j) h = absurd (omega arith)
 
-    pub begun-proper : Proper n e slots (columns (set real start f0) (set penalised start f0) came₁ (set key 0 ahead) (set cost 0 f0) (set node 0 start) (set order 0 0) 1 1)
-    begun-proper = record {
+    first-proper : Proper n e slots (parts (set real start f0) (set penalised start f0) came₁ (set key 0 ahead) (set cost 0 f0) (set node 0 start) (set order 0 0) 1 1)
+    first-proper = record {
       sized = record {
         real = rw (length-set real start f0) (fits .real);
         penalised = rw (length-set penalised start f0) (fits .penalised);
@@ -101,3 +102,32 @@ module _ (n start : ℕ) (real penalised : List Float) (came : List ℕ) (key co
       reached = λ k h. rw (first-node k h, at-first) (λ z. omega arith);
       marks = first-mark;
     }
+
+-- as the areas are lent
+module _ (n start slots : ℕ) (labels : List Float) (came : List ℕ) (entries : List Float) (links : List ℕ) (ahead : Float) (inside : start < n) (one : 0 < slots) (fits : Sized n slots (columns n slots labels came entries links 0 0)) where
+  abbrev first : Columns
+  first = columns n slots (set (set labels start f0) (n + start) f0) (set (filled n unreached came) start at-start) (set (set entries 0 ahead) slots f0) (set (set links 0 0) slots start) 1 1
+
+  halves : {A : Type 0} (l : List A) (x y : A) → (take slots (set (set l 0 x) slots y) ≡ set (take slots l) 0 x) × (drop slots (set (set l 0 x) slots y) ≡ set (drop slots l) 0 y)
+  halves l x y =
+      let there : slots + 0 ≡ slots = omega arith in
+      (rw there at (first-half slots l 0 x y one), rw there at (second-half slots l 0 x y one))
+
+  split : first ≡ parts (set (take n labels) start f0) (set (drop n labels) start f0) (set (filled n unreached came) start at-start) (set (take slots entries) 0 ahead) (set (drop slots entries) 0 f0) (set (drop slots links) 0 start) (set (take slots links) 0 0) 1 1
+  split = λ i. parts (first-half n labels start f0 f0 inside i) (second-half n labels start f0 f0 inside i) (set (filled n unreached came) start at-start) (halves entries ahead f0 .0 i) (halves entries ahead f0 .1 i) (halves links 0 start .1 i) (halves links 0 start .0 i) 1 1
+
+  pub begun-state : (roads : ℕ → Road) (q : Query) → q .nodes ≡ n → q .ahead start ≡ ahead → state-of roads n first ≡ begun q start
+  begun-state roads q nodes far =
+      ap (state-of roads n) split
+      ∙ first-state n start (take n labels) (drop n labels) came (take slots entries) (drop slots entries) (drop slots links) (take slots links) ahead inside roads q nodes far record {
+        real = fits .real;
+        penalised = fits .penalised;
+        came = fits .came;
+        key = omega (arith, fits .key);
+        cost = omega (arith, fits .cost);
+        node = omega (arith, fits .node);
+        order = omega (arith, fits .order);
+      }
+
+  pub begun-proper : (e : ℕ) → Proper n e slots first
+  begun-proper e = subst (Proper n e slots) (sym split) (first-proper n start (take n labels) (drop n labels) came (take slots entries) (drop slots entries) (drop slots links) (take slots links) ahead inside e slots one fits)

@@ -4,8 +4,8 @@ use mathlib.Core.Path.{_≡_, sym, ap, _∙_}
 use mathlib.Core.Logic.{inl, inr}
 use mathlib.Core.List.{List, [], _∷_, _++_, List·Memᴰ·cases-cons}
 use native.Mathlib.Omega.{arith}
-use lib.ListN.{length, getD, set, take, length-set}
-use lib.Seq.{getD-set-same, getD-set-other}
+use lib.ListN.{length, getD, set, take}
+use lib.Seq.{getD-set-same, getD-set-other, getD-take}
 use lib.Ieee.{Float, nan}
 use Rattle.model.specs.Numbers.{f0}
 use Rattle.model.specs.Heap.{push, pop}
@@ -47,33 +47,38 @@ below-front o zero m h b = every-none (λ k. k < m)
 below-front [] (suc len) m h b = every-none (λ k. k < m)
 below-front (x ∷ o) (suc len) m h b = every-cons (λ k. k < m) (b 0 (suc-le-suc zero-le)) (below-front o len m (omega arith) (λ j l. b (suc j) (suc-le-suc l)))
 
-module _ (key cost : List Float) (node : List ℕ) (made : ℕ) (order order′ : List ℕ) (len : ℕ) (wide : made ≤ length key) (fits : len ≤ length order) where
+module _ (key cost : List Float) (node : List ℕ) (made : ℕ) (order order′ : List ℕ) (len : ℕ) (wide : made ≤ length key) (fits : len ≤ length order)
+    (lent : List Float) (agree : (k : ℕ) → k < made → key-in lent k ≡ key-in key k) where
   -- entry e, the last one made, goes in
-  module _ (e : ℕ) (last : made ≡ e + 1) (below : Below order len e) (is : take (len + 1) order′ ≡ push (key-in key) (take len order) e) where
+  module _ (e : ℕ) (last : made ≡ e + 1) (below : Below order len e) (is : take (len + 1) order′ ≡ push (key-in lent) (take len order) e) where
     pub heap-push : take (len + 1) order′ ≡ push (key-of (entries-of key cost node made)) (take len order) e
-    heap-push = is ∙ push-same (key-in key) (key-of (entries-of key cost node made)) (take len order) e (λ k m.
+    heap-push = is ∙ push-same (key-in lent) (key-of (entries-of key cost node made)) (take len order) e (λ k m.
         let h : k < made = elim (List·Memᴰ·cases-cons m) [ inl p ↦ omega arith | inr p ↦ omega (arith, below-front order len e fits below k p) ] in
-        sym (key-is key cost node made k h wide))
+        agree k h ∙ sym (key-is key cost node made k h wide))
 
     pub push-below : len + 1 ≤ length order′ → Below order′ (len + 1) made
     push-below h =
-        let held = push-held (λ k. k < made) (key-in key) (take len order) e (λ k m. omega (arith, below-front order len e fits below k m)) (omega arith) in
+        let held = push-held (λ k. k < made) (key-in lent) (take len order) e (λ k m. omega (arith, below-front order len e fits below k m)) (omega arith) in
         front-below order′ (len + 1) made h (rw is (held .every))
 
   -- the first one goes out
-  module _ (below : Below order len made) (is : take (len - 1) order′ ≡ pop (key-in key) (take len order)) where
+  module _ (below : Below order len made) (is : take (len - 1) order′ ≡ pop (key-in lent) (take len order)) where
     pub heap-pop : take (len - 1) order′ ≡ pop (key-of (entries-of key cost node made)) (take len order)
-    heap-pop = is ∙ pop-same (key-in key) (key-of (entries-of key cost node made)) (take len order) (λ k m. sym (key-is key cost node made k (below-front order len made fits below k m) wide))
+    heap-pop = is ∙ pop-same (key-in lent) (key-of (entries-of key cost node made)) (take len order) (λ k m.
+        let h : k < made = below-front order len made fits below k m in
+        agree k h ∙ sym (key-is key cost node made k h wide))
 
     pub pop-below : len - 1 ≤ length order′ → Below order′ (len - 1) made
-    pop-below h = front-below order′ (len - 1) made h (rw is (pop-held (λ k. k < made) (key-in key) (take len order) (below-front order len made fits below) .every))
+    pop-below h = front-below order′ (len - 1) made h (rw is (pop-held (λ k. k < made) (key-in lent) (take len order) (below-front order len made fits below) .every))
 
--- what the heap asks of the areas before a push of the next entry, and before a pop
-module _ {n e slots : ℕ} {a : Columns} (ok : Proper n e slots a) where
-  pub can-push : a .made < slots → (x : Float) → ((a .len < length (a .order)) × (a .made < length (set (a .key) (a .made) x))) × Below (a .order) (a .len) (length (set (a .key) (a .made) x))
-  can-push spare x =
-      let size = length-set (a .key) (a .made) x in
-      ((omega (arith, ok .sized .order, ok .fewer), omega (arith, ok .sized .key)), λ j h. omega (arith, ok .numbers j h, ok .sized .key))
+-- the heap reads the keys of the whole area that is lent
+pub keys-agree : (slots : ℕ) (lent : List Float) (made : ℕ) → made ≤ slots → (j : ℕ) → j < made → key-in lent j ≡ key-in (take slots lent) j
+keys-agree slots lent made h j l = sym (getD-take slots lent j f0 (omega arith))
 
-  pub can-pop : 0 < a .len → ((0 < a .len) × (a .len ≤ length (a .order))) × Below (a .order) (a .len) (length (a .key))
-  can-pop h = ((h, omega (arith, ok .sized .order, ok .fewer, ok .room)), λ j l. omega (arith, ok .numbers j l, ok .sized .key, ok .room))
+-- what the heap asks of the areas before a push of the next entry, and before a pop; it is lent m places for keys
+module _ {n e slots : ℕ} {a : Columns} (ok : Proper n e slots a) (m : ℕ) (wide : slots ≤ m) where
+  pub can-push : a .made < slots → ((a .len < length (a .order)) × (a .made < m)) × Below (a .order) (a .len) m
+  can-push spare = ((omega (arith, ok .sized .order, ok .fewer), omega arith), λ j h. omega (arith, ok .numbers j h))
+
+  pub can-pop : 0 < a .len → ((0 < a .len) × (a .len ≤ length (a .order))) × Below (a .order) (a .len) m
+  can-pop h = ((h, omega (arith, ok .sized .order, ok .fewer, ok .room)), λ j l. omega (arith, ok .numbers j l, ok .room))

@@ -1,23 +1,24 @@
 -- A node gets a label and an entry: the areas stand for the definition's next state, and stay proper.
 use Prim.Native.Nat.{ℕ, _+_, _≤_, _<_}
-use mathlib.Core.Path.{_≡_, refl, sym, ap, _∙_}
+use mathlib.Core.Path.{_≡_, refl, sym, ap, _∙_, subst}
 use mathlib.Core.Logic.{inl, inr, _≢_}
 use mathlib.Core.Option.{none, some}
 use mathlib.Core.List.{List, [], _∷_, _++_}
 use native.Mathlib.Omega.{arith}
-use lib.ListN.{length, getD, set, take, length-set}
-use lib.Seq.{getD-set-same, getD-set-other}
+use lib.ListN.{length, getD, set, take, drop, length-set}
+use lib.Seq.{getD-set-same, getD-set-other, getD-take, take-set-le, drop-set-add, length-take-le}
 use lib.Ieee.{Float}
 use borrow.Author.Tests.{ne-eqb}
 use Rattle.model.specs.declared.Road.{Road}
-use Rattle.model.specs.Numbers.{_⊕_}
+use Rattle.model.specs.Numbers.{f0, _⊕_}
 use Rattle.model.specs.Layout.{most-roads}
 use Rattle.model.specs.Heap.{push}
 use Rattle.model.specs.Search.{Query, Label, Entry, key-of, entered}
 use Rattle.bounds.proofs.Choices.{same-or-other}
 use Rattle.bounds.proofs.Turns.{entered-some, entered-none}
 use Rattle.heap.specs.Keys.{key-in, Below}
-use Rattle.search.specs.Areas.{at-start, came-by, marked, labels-of, entries-of, Columns, columns, state-of, Sized, SameSizes, Mark, Reached, Proper, Kept}
+use Rattle.search.specs.Areas.{at-start, came-by, marked, labels-of, entries-of, Columns, parts, columns, state-of, Sized, SameSizes, Mark, Reached, Proper, Kept}
+use Rattle.search.proofs.Halves.{halves-length, first-half, second-half, first-lent, second-kept}
 use Rattle.search.proofs.Labels.{marked-some, labels-set}
 use Rattle.search.proofs.Entries.{entry-count, entries-more, heap-push, push-below}
 
@@ -53,7 +54,7 @@ kept-same ok = record { proper = ok; sizes = record { real = refl; penalised = r
 
 -- the heap's order and length anew
 pub reordered : {n e slots : ℕ} {a : Columns} → Proper n e slots a → (order : List ℕ) (len : ℕ) → length order ≡ length (a .order) → len ≤ a .made → Below order len (a .made)
-    → Proper n e slots (columns (a .real) (a .penalised) (a .came) (a .key) (a .cost) (a .node) order len (a .made))
+    → Proper n e slots (parts (a .real) (a .penalised) (a .came) (a .key) (a .cost) (a .node) order len (a .made))
 reordered ok order len size fewer numbers = record {
   sized = record { real = ok .sized .real; penalised = ok .sized .penalised; came = ok .sized .came; key = ok .sized .key; cost = ok .sized .cost; node = ok .sized .node; order = rw size (ok .sized .order) };
   fewer = fewer;
@@ -72,7 +73,7 @@ module _ (n e slots : ℕ) (few : e ≤ most-roads) (a : Columns) (ok : Proper n
 
   -- node v, `far` from the goal, gets the costs x and y and the road k, and an entry
   module _ (spare : a .made < slots) (v : ℕ) (inside : v < n) (k : ℕ) (road : k < e) (x y far : Float) (order : List ℕ) (size : length order ≡ length (a .order))
-      (pushed : take (a .len + 1) order ≡ push (key-in (set (a .key) (a .made) (y ⊕ far))) (take (a .len) (a .order)) (a .made)) where
+      (lent : List Float) (agree : (j : ℕ) → j < a .made + 1 → key-in lent j ≡ key-in (set (a .key) (a .made) (y ⊕ far)) j) (pushed : take (a .len + 1) order ≡ push (key-in lent) (take (a .len) (a .order)) (a .made)) where
     abbrev key : Float
     key = y ⊕ far
 
@@ -85,8 +86,8 @@ module _ (n e slots : ℕ) (few : e ≤ most-roads) (a : Columns) (ok : Proper n
     abbrev nodes : List ℕ
     nodes = set (a .node) (a .made) v
 
-    abbrev pub grown : Columns
-    grown = columns (set (a .real) v x) (set (a .penalised) v y) (set (a .came) v k) keys costs nodes order (a .len + 1) (a .made + 1)
+    abbrev grown : Columns
+    grown = parts (set (a .real) v x) (set (a .penalised) v y) (set (a .came) v k) keys costs nodes order (a .len + 1) (a .made + 1)
 
     wide : a .made + 1 ≤ length keys
     wide = omega (arith, length-set (a .key) (a .made) key, ok .sized .key)
@@ -112,11 +113,11 @@ module _ (n e slots : ℕ) (few : e ≤ most-roads) (a : Columns) (ok : Proper n
 
       heap-is : take (a .len + 1) order ≡ push (key-of (entries-of (a .key) (a .cost) (a .node) (a .made) ++ record { key = y ⊕ q .ahead v; cost = y; node = v } ∷ [])) (take (a .len) (a .order)) (length (entries-of (a .key) (a .cost) (a .node) (a .made)))
       heap-is =
-          heap-push keys costs nodes (a .made + 1) (a .order) order (a .len) wide fits (a .made) refl (ok .numbers) pushed
+          heap-push keys costs nodes (a .made + 1) (a .order) order (a .len) wide fits lent agree (a .made) refl (ok .numbers) pushed
           ∙ ap (λ (es : List Entry). push (key-of es) (take (a .len) (a .order)) (a .made)) entries-are
           ∙ ap (λ (m : ℕ). push (key-of (entries-of (a .key) (a .cost) (a .node) (a .made) ++ record { key = y ⊕ q .ahead v; cost = y; node = v } ∷ [])) (take (a .len) (a .order)) m) (sym (entry-count (a .key) (a .cost) (a .node) (a .made)))
 
-      pub grown-state : some (state-of roads n grown) ≡ entered slots q (state-of roads n a) v label
+      grown-state : some (state-of roads n grown) ≡ entered slots q (state-of roads n a) v label
       grown-state =
           (λ i. some record { labels = labels-are i; made = entries-are i; heap = heap-is i })
           ∙ sym (entered-some slots q (state-of roads n a) v label (omega (arith, entry-count (a .key) (a .cost) (a .node) (a .made))))
@@ -153,13 +154,13 @@ module _ (n e slots : ℕ) (few : e ≤ most-roads) (a : Columns) (ok : Proper n
       order = size;
     }
 
-    pub grown-kept : Kept n e slots a grown
+    grown-kept : Kept n e slots a grown
     grown-kept = record {
       proper = record {
         sized = sized-on (ok .sized) grown-sizes;
         fewer = omega (arith, ok .fewer);
         room = omega arith;
-        numbers = push-below keys costs nodes (a .made + 1) (a .order) order (a .len) wide fits (a .made) refl (ok .numbers) pushed (omega (arith, ok .sized .order, ok .fewer));
+        numbers = push-below keys costs nodes (a .made + 1) (a .order) order (a .len) wide fits lent agree (a .made) refl (ok .numbers) pushed (omega (arith, ok .sized .order, ok .fewer));
         nodes = at-node (λ u. u < n) inside (ok .nodes);
         reached = at-node (Reached grown) (λ z. omega (arith, mark-there)) (λ j h. still-reached (getD (a .node) j 0) (ok .reached j h));
         marks = marks;
@@ -168,3 +169,41 @@ module _ (n e slots : ℕ) (few : e ≤ most-roads) (a : Columns) (ok : Proper n
       gone = omega arith;
       reached = still-reached;
     }
+
+-- as the areas are lent
+module _ (n e slots : ℕ) (few : e ≤ most-roads) (labels : List Float) (came : List ℕ) (entries : List Float) (links : List ℕ) (len made : ℕ) (ok : Proper n e slots (columns n slots labels came entries links len made))
+    (spare : made < slots) (v : ℕ) (inside : v < n) (k : ℕ) (road : k < e) (x y far : Float) (order : List ℕ) (size : length order ≡ length (take slots (set links (slots + made) v)))
+    (pushed : take (len + 1) order ≡ push (key-in (set (set entries made (y ⊕ far)) (slots + made) y)) (take len (take slots (set links (slots + made) v))) made) where
+  abbrev a : Columns
+  a = columns n slots labels came entries links len made
+
+  abbrev lent : List Float
+  lent = set (set entries made (y ⊕ far)) (slots + made) y
+
+  abbrev after : Columns
+  after = columns n slots (set (set labels v x) (n + v) y) (set came v k) lent (order ++ drop slots (set links (slots + made) v)) (len + 1) (made + 1)
+
+  same : take slots (set links (slots + made) v) ≡ take slots links
+  same = take-set-le slots links (slots + made) v (omega arith)
+
+  size′ : length order ≡ length (take slots links)
+  size′ = rw same at size
+
+  pushed′ : take (len + 1) order ≡ push (key-in lent) (take len (take slots links)) made
+  pushed′ = rw same at pushed
+
+  full : length order ≡ slots
+  full = size′ ∙ length-take-le slots links (omega (arith, ok .sized .order, halves-length slots links))
+
+  agree : (j : ℕ) → j < made + 1 → key-in lent j ≡ key-in (set (take slots entries) made (y ⊕ far)) j
+  agree j h = sym (getD-take slots lent j f0 (omega arith)) ∙ ap (λ (l : List Float). getD l j f0) (first-half slots entries made (y ⊕ far) y spare)
+
+  split : after ≡ grown n e slots few a ok spare v inside k road x y far order size′ lent agree pushed′
+  split = λ i. parts (first-half n labels v x y inside i) (second-half n labels v x y inside i) (set came v k) (first-half slots entries made (y ⊕ far) y spare i) (second-half slots entries made (y ⊕ far) y spare i)
+      ((second-kept slots (set links (slots + made) v) order full ∙ drop-set-add slots links made v) i) (first-lent slots (set links (slots + made) v) order full i) (len + 1) (made + 1)
+
+  pub entered-kept : Kept n e slots a after
+  entered-kept = subst (Kept n e slots a) (sym split) (grown-kept n e slots few a ok spare v inside k road x y far order size′ lent agree pushed′)
+
+  pub entered-state : (roads : ℕ → Road) (q : Query) → far ≡ q .ahead v → some (state-of roads n after) ≡ entered slots q (state-of roads n a) v record { real = x; penalised = y; came-from = some (roads k) }
+  entered-state roads q is = ap (λ (b : Columns). some (state-of roads n b)) split ∙ grown-state n e slots few a ok spare v inside k road x y far order size′ lent agree pushed′ roads q is

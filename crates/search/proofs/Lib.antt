@@ -1,4 +1,5 @@
 pub mod Tables
+pub mod Halves
 pub mod Labels
 pub mod Entries
 pub mod Beginning

@@ -20,25 +20,25 @@ use Rattle.search.specs.declared.offers.Offer.the-variants as O
 use Rattle.search.specs.declared.relax.Relaxed.{Relaxed}
 use Rattle.search.specs.declared.relax.Relaxed.the-variants as R
 use Rattle.search.specs.Ask.{penalty-by, asked}
-use Rattle.search.specs.Areas.{unreached, labels-of, entry-from, Columns, state-of, Kept}
+use Rattle.search.specs.Areas.{unreached, marked, labels-of, entry-from, Columns, state-of, Kept}
 use Rattle.search.specs.Answers.{new-label, Sees, outcome, After}
 use Rattle.search.proofs.Tables.{tab-next, tab-none}
 use Rattle.search.proofs.Labels.{label-is, real-reached}
 use Rattle.search.proofs.Growth.{kept-on}
 
 -- what an offer over r from node u reads in the areas
-pub sees-areas : (t : Sheet) (ask : Ask) (roads : ℕ → Road) (n : ℕ) (real penalised : List Float) (came : List ℕ) (u : ℕ) (cost : Float) (r : Road) {extra : Float}
-    → u < n → getD came u 0 ≢ unreached → r .target < n → extra ≡ penalty-by (ask .slip) (ask .access) r
-    → Sees (asked t ask) (entry-from u cost) (labels-of roads n real penalised came) r (ask .bound) (getD real u nan) cost extra (getD penalised (r .target) nan) (getD came (r .target) 0)
+pub sees-areas : (t : Sheet) (ask : Ask) (roads : ℕ → Road) (n : ℕ) (real penalised : List Float) (came : List ℕ) (u : ℕ) (cost : Float) (r : Road) {extra x y : Float}
+    → u < n → getD came u 0 ≢ unreached → r .target < n → extra ≡ penalty-by (ask .slip) (ask .access) r → getD real u nan ≡ x → getD penalised (r .target) nan ≡ y
+    → Sees (asked t ask) (entry-from u cost) (labels-of roads n real penalised came) r (ask .bound) x cost extra y (getD came (r .target) 0)
 unfolding asked
-sees-areas t ask roads n real penalised came u cost r inside reached target is = record {
+sees-areas t ask roads n real penalised came u cost r inside reached target is p q = record {
   bound-is = refl;
-  real-is = ap real-of (label-is roads n real penalised came u inside) ∙ real-reached roads (getD real u nan) (getD penalised u nan) (getD came u 0) reached;
+  real-is = ap real-of (label-is roads n real penalised came u inside) ∙ real-reached roads (getD real u nan) (getD penalised u nan) (getD came u 0) reached ∙ p;
   cost-is = refl;
   extra-is = sym is;
   roads = roads;
   its-real = getD real (r .target) nan;
-  label-is = label-is roads n real penalised came (r .target) target;
+  label-is = label-is roads n real penalised came (r .target) target ∙ ap (λ (w : Float). marked roads (getD real (r .target) nan) w (getD came (r .target) 0)) q;
 }
 
 module _ (slots : ℕ) (q : Query) (e : Entry) (st : State) (r : Road) {o : Offer} (is : new-label o r ≡ offered q e (st .labels) r) where

@@ -4,13 +4,14 @@ use mathlib.Core.Path.{_≡_, refl, sym, ap, _∙_, subst}
 use mathlib.Core.List.{List, [], _∷_}
 use native.Mathlib.Omega.{arith}
 use lib.ListN.{length, getD, take}
+use lib.Ieee.{Float}
 use Rattle.model.specs.declared.Road.{Road}
 use Rattle.model.specs.Heap.{pop}
 use Rattle.model.specs.Search.{Query, Found, none-found, Entry, State, entry-at, key-of, Step, visit, take-step, onward, run}
 use Rattle.heap.specs.Keys.{key-in}
 use Rattle.search.specs.declared.turns.Progress.{Progress}
 use Rattle.search.specs.declared.turns.Progress.the-variants as P
-use Rattle.search.specs.Areas.{labels-of, entry-of, Columns, columns, state-of, SameSizes, Proper}
+use Rattle.search.specs.Areas.{labels-of, entry-of, Columns, parts, state-of, SameSizes, Proper}
 use Rattle.search.specs.Answers.{step-of, Went, Stands, ended}
 use Rattle.search.proofs.Entries.{entry-is, heap-pop, pop-below}
 use Rattle.search.proofs.Growth.{sizes-on, reordered}
@@ -19,16 +20,16 @@ use Rattle.search.proofs.Growth.{sizes-on, reordered}
 
 module _ {n e slots : ℕ} {a : Columns} (ok : Proper n e slots a) (some-left : 0 < a .len) (order : List ℕ) (size : length order ≡ length (a .order)) where
   abbrev pub popped : Columns
-  popped = columns (a .real) (a .penalised) (a .came) (a .key) (a .cost) (a .node) order (a .len - 1) (a .made)
+  popped = parts (a .real) (a .penalised) (a .came) (a .key) (a .cost) (a .node) order (a .len - 1) (a .made)
 
   fits : a .len ≤ length (a .order)
   fits = omega (arith, ok .sized .order, ok .fewer, ok .room)
 
-  module _ (is : take (a .len - 1) order ≡ pop (key-in (a .key)) (take (a .len) (a .order))) where
+  module _ (lent : List Float) (agree : (j : ℕ) → j < a .made → key-in lent j ≡ key-in (a .key) j) (is : take (a .len - 1) order ≡ pop (key-in lent) (take (a .len) (a .order))) where
     pub popped-proper : Proper n e slots popped
     popped-proper =
         reordered ok order (a .len - 1) size (omega (arith, ok .fewer))
-        (pop-below (a .key) (a .cost) (a .node) (a .made) (a .order) order (a .len) (omega (arith, ok .sized .key, ok .room)) fits (ok .numbers) is (omega (arith, fits)))
+        (pop-below (a .key) (a .cost) (a .node) (a .made) (a .order) order (a .len) (omega (arith, ok .sized .key, ok .room)) fits lent agree (ok .numbers) is (omega (arith, fits)))
 
     module _ (roads : ℕ → Road) (steps : ℕ) (q : Query) {k : ℕ} (top : k ≡ getD (a .order) 0 0) where
       abbrev st : State
@@ -54,7 +55,7 @@ module _ {n e slots : ℕ} {a : Columns} (ok : Proper n e slots a) (some-left : 
           ap (λ (l : List ℕ). take-step steps slots q l st) (h .2)
           ∙ ap (λ (x : Entry). visit steps slots q x record { labels = st .labels; made = st .made; heap = pop (key-of (st .made)) (st .heap) }) (ap (entry-at (st .made)) first ∙ entry-is (a .key) (a .cost) (a .node) (a .made) k top-below)
           ∙ ap (λ (l : List ℕ). visit steps slots q (entry-of (a .key) (a .cost) (a .node) k) record { labels = st .labels; made = st .made; heap = l })
-          (sym (heap-pop (a .key) (a .cost) (a .node) (a .made) (a .order) order (a .len) (omega (arith, ok .sized .key, ok .room)) fits (ok .numbers) is))
+          (sym (heap-pop (a .key) (a .cost) (a .node) (a .made) (a .order) order (a .len) (omega (arith, ok .sized .key, ok .room)) fits lent agree (ok .numbers) is))
 
 -- ---- the loop
 
@@ -101,50 +102,49 @@ module _ {n e slots goal : ℕ} {q : Query} {roads : ℕ → Road} {end : ℕ �
     pub looking-proper : Proper n e slots a
     looking-proper = subst (λ (x : Progress). Stands n e slots goal x a) looking (w .stands)
 
-    module _ (order : List ℕ) (size : length order ≡ length (a .order)) {k : ℕ} (is : (k ≡ getD (a .order) 0 0) × (take (a .len - 1) order ≡ pop (key-in (a .key)) (take (a .len) (a .order)))) where
-      abbrev rest : Columns
-      rest = popped looking-proper some-left order size
+    module _ (order : List ℕ) (size : length order ≡ length (a .order)) (lent : List Float) (agree : (j : ℕ) → j < a .made → key-in lent j ≡ key-in (a .key) j) {k : ℕ}
+        (is : (k ≡ getD (a .order) 0 0) × (take (a .len - 1) order ≡ pop (key-in lent) (take (a .len) (a .order)))) where
+      module _ {rest : Columns} (split : rest ≡ popped looking-proper some-left order size) where
+        pub rest-proper : Proper n e slots rest
+        rest-proper = subst (Proper n e slots) (sym split) (popped-proper looking-proper some-left order size lent agree (is .1))
 
-      pub rest-proper : Proper n e slots rest
-      rest-proper = popped-proper looking-proper some-left order size (is .1)
+        pub taken-below : k < a .made
+        taken-below = top-below looking-proper some-left order size lent agree (is .1) roads 0 q (is .0)
 
-      pub taken-below : k < a .made
-      taken-below = top-below looking-proper some-left order size (is .1) roads 0 q (is .0)
+        module _ (p′ : Progress) (b : Columns) (went : Went n e slots goal rest p′ b) where
+          -- the turns that are left afterwards count only where it looks on
+          turns-after : (steps : ℕ) → onward (step-of steps q p′ (state-of roads n b)) (run steps (slots + b .len - b .made) slots q) ≡ onward (step-of steps q p′ (state-of roads n b)) (run steps (slots + (a .len - 1) - a .made) slots q)
+          unfolding onward
+          turns-after steps = go p′ went
+            where
+              go : (p′ : Progress) → Went n e slots goal rest p′ b → onward (step-of steps q p′ (state-of roads n b)) (run steps (slots + b .len - b .made) slots q) ≡ onward (step-of steps q p′ (state-of roads n b)) (run steps (slots + (a .len - 1) - a .made) slots q)
+              go P.Looking h = ap (λ (m : ℕ). run steps m slots q (state-of roads n b)) {x = slots + b .len - b .made} {y = slots + (a .len - 1) - a .made} (omega (arith, h .gone, ap (λ (b : Columns). b .len) split, ap (λ (b : Columns). b .made) split, h .proper .room, looking-proper .room))
+              go P.Found h = refl
+              go P.Full h = refl
 
-      module _ (p′ : Progress) (b : Columns) (went : Went n e slots goal rest p′ b) where
-        -- the turns that are left afterwards count only where it looks on
-        turns-after : (steps : ℕ) → onward (step-of steps q p′ (state-of roads n b)) (run steps (slots + b .len - b .made) slots q) ≡ onward (step-of steps q p′ (state-of roads n b)) (run steps (slots + (a .len - 1) - a .made) slots q)
-        unfolding onward
-        turns-after steps = go p′ went
-          where
-            go : (p′ : Progress) → Went n e slots goal rest p′ b → onward (step-of steps q p′ (state-of roads n b)) (run steps (slots + b .len - b .made) slots q) ≡ onward (step-of steps q p′ (state-of roads n b)) (run steps (slots + (a .len - 1) - a .made) slots q)
-            go P.Looking h = ap (λ (m : ℕ). run steps m slots q (state-of roads n b)) {x = slots + b .len - b .made} {y = slots + (a .len - 1) - a .made} (omega (arith, h .gone, h .proper .room, looking-proper .room))
-            go P.Found h = refl
-            go P.Full h = refl
+          pub run-turn : SameSizes a b → ((steps : ℕ) → step-of steps q p′ (state-of roads n b) ≡ visit steps slots q (entry-of (rest .key) (rest .cost) (rest .node) k) (state-of roads n rest)) → Running n e slots goal q roads end a₀ p′ b
+          unfolding run onward
+          run-turn sizes visited = record {
+            sizes = sizes-on (w .sizes) sizes;
+            stands = went-stands p′ went;
+            same = λ steps.
+                let left = slots + (a .len - 1) - a .made in
+                let more-left : slots + a .len - a .made ≡ suc left = omega (arith, looking-proper .room) in
+                let old : onward (step-of steps q P.Looking (state-of roads n a)) (run steps (suc left) slots q) ≡ end steps = rw (looking, more-left) at (w .same steps) in
+                turns-after steps
+                ∙ ap (λ (s : Step). onward s (run steps left slots q)) (visited steps ∙ ap (λ (b : Columns). visit steps slots q (entry-of (b .key) (b .cost) (b .node) k) (state-of roads n b)) split ∙ sym (take-is looking-proper some-left order size lent agree (is .1) roads steps q (is .0)))
+                ∙ old;
+          }
+            where
+              went-stands : (p′ : Progress) → Went n e slots goal rest p′ b → Stands n e slots goal p′ b
+              went-stands P.Looking h = h .proper
+              went-stands P.Found h = (h .0, h .1, h .2)
+              went-stands P.Full h = (h .0, h .1)
 
-        pub run-turn : SameSizes a b → ((steps : ℕ) → step-of steps q p′ (state-of roads n b) ≡ visit steps slots q (entry-of (a .key) (a .cost) (a .node) k) (state-of roads n rest)) → Running n e slots goal q roads end a₀ p′ b
-        unfolding run onward
-        run-turn sizes visited = record {
-          sizes = sizes-on (w .sizes) sizes;
-          stands = went-stands p′ went;
-          same = λ steps.
-              let left = slots + (a .len - 1) - a .made in
-              let more-left : slots + a .len - a .made ≡ suc left = omega (arith, looking-proper .room) in
-              let old : onward (step-of steps q P.Looking (state-of roads n a)) (run steps (suc left) slots q) ≡ end steps = rw (looking, more-left) at (w .same steps) in
-              turns-after steps
-              ∙ ap (λ (s : Step). onward s (run steps left slots q)) (visited steps ∙ sym (take-is looking-proper some-left order size (is .1) roads steps q (is .0)))
-              ∙ old;
-        }
-          where
-            went-stands : (p′ : Progress) → Went n e slots goal rest p′ b → Stands n e slots goal p′ b
-            went-stands P.Looking h = h .proper
-            went-stands P.Found h = (h .0, h .1, h .2)
-            went-stands P.Full h = (h .0, h .1)
-
-        pub run-less : slots + b .len - b .made < slots + a .len - a .made
-        run-less = go p′ went
-          where
-            go : (p′ : Progress) → Went n e slots goal rest p′ b → slots + b .len - b .made < slots + a .len - a .made
-            go P.Looking h = omega (arith, h .gone, h .proper .room, looking-proper .room)
-            go P.Found h = omega (arith, h .2, h .3, looking-proper .room)
-            go P.Full h = omega (arith, h .1, h .2, looking-proper .room)
+          pub run-less : slots + b .len - b .made < slots + a .len - a .made
+          run-less = go p′ went
+            where
+              go : (p′ : Progress) → Went n e slots goal rest p′ b → slots + b .len - b .made < slots + a .len - a .made
+              go P.Looking h = omega (arith, h .gone, ap (λ (b : Columns). b .len) split, ap (λ (b : Columns). b .made) split, h .proper .room, looking-proper .room)
+              go P.Found h = omega (arith, h .2, h .3, ap (λ (b : Columns). b .made) split, looking-proper .room)
+              go P.Full h = omega (arith, h .1, h .2, ap (λ (b : Columns). b .made) split, looking-proper .room)

@@ -1,6 +1,6 @@
 -- The entry that a turn takes: at the goal, stale, or its roads are tried, as the definition has it.
 use Prim.Native.Nat.{ℕ, _<_}
-use mathlib.Core.Path.{_≡_, refl, sym, ap, _∙_}
+use mathlib.Core.Path.{_≡_, refl, sym, ap, _∙_, subst}
 use mathlib.Core.Logic.{_≢_}
 use mathlib.Core.Bool.{true, false}
 use mathlib.Core.Option.{Option, none}
@@ -15,7 +15,7 @@ use Rattle.model.specs.Search.{Query, Label, Entry, State, label-at, stale, off
 use Rattle.bounds.proofs.Turns.{visit-arrived, visit-stale, visit-opened}
 use Rattle.search.specs.declared.relax.Relaxed.{Relaxed}
 use Rattle.search.specs.declared.relax.Relaxed.the-variants as R
-use Rattle.search.specs.Areas.{entry-of, entry-from, Columns, columns, state-of, Proper}
+use Rattle.search.specs.Areas.{entry-of, entry-from, Columns, parts, state-of, Reached, Proper}
 use Rattle.search.specs.Answers.{outcome, After, arrived, step-of, turn-of, Went}
 use Rattle.search.proofs.Labels.{label-is, stale-reached}
 use Rattle.search.proofs.Growth.{reordered}
@@ -28,37 +28,33 @@ relax-all-from slots q x (r ∷ rs) st = λ i. maybe (relax slots q x st r) none
 
 -- ---- the entry that is taken
 
-module _ {n e slots : ℕ} {a : Columns} (roads : ℕ → Road) (q : Query) (ok : Proper n e slots a) (k : ℕ) (taken : k < a .made) where
+module _ {n e slots : ℕ} {a : Columns} (roads : ℕ → Road) (q : Query) (ok : Proper n e slots a) (k : ℕ) (taken : k < a .made) {u : ℕ} (there : getD (a .node) k 0 ≡ u) {g : Float} (costs : getD (a .cost) k nan ≡ g) {kept : Float} (labelled : getD (a .penalised) u nan ≡ kept) where
   abbrev x : Entry
   x = entry-of (a .key) (a .cost) (a .node) k
-
-  abbrev u : ℕ
-  u = getD (a .node) k 0
-
-  abbrev g : Float
-  g = getD (a .cost) k nan
 
   abbrev st : State
   st = state-of roads n a
 
-  pub node-inside : u < n
-  node-inside = ok .nodes k taken
+  node-inside : u < n
+  node-inside = subst (λ (v : ℕ). v < n) there (ok .nodes k taken)
 
   -- it was made before a better label
-  stale-is : stale (label-at (st .labels) u) g ≡ (getD (a .penalised) u nan <ᶠ g)
-  stale-is = ap (λ (l : Option Label). stale l g) (label-is roads n (a .real) (a .penalised) (a .came) u node-inside) ∙ stale-reached roads (getD (a .real) u nan) (getD (a .penalised) u nan) (getD (a .came) u 0) g (ok .reached k taken)
+  stale-is : stale (label-at (st .labels) (x .node)) (x .cost) ≡ (kept <ᶠ g)
+  stale-is =
+      (λ i. stale (label-at (st .labels) (there i)) (costs i))
+      ∙ ap (λ (l : Option Label). stale l g) (label-is roads n (a .real) (a .penalised) (a .came) u node-inside) ∙ stale-reached roads (getD (a .real) u nan) (getD (a .penalised) u nan) (getD (a .came) u 0) g (subst (Reached a) there (ok .reached k taken)) ∙ ap (λ (y : Float). y <ᶠ g) labelled
 
   pub visit-found : (steps : ℕ) → u ≡ q .goal → stop (arrived steps q (st .labels)) ≡ visit steps slots q x st
-  visit-found steps h = sym (visit-arrived steps slots q x st h)
+  visit-found steps h = sym (visit-arrived steps slots q x st (there ∙ h))
 
-  pub visit-old : (steps : ℕ) → u ≢ q .goal → (getD (a .penalised) u nan <ᶠ g) ≡ true → more st ≡ visit steps slots q x st
-  visit-old steps h old = sym (visit-stale steps slots q x st h (stale-is ∙ old))
+  pub visit-old : (steps : ℕ) → u ≢ q .goal → (kept <ᶠ g) ≡ true → more st ≡ visit steps slots q x st
+  visit-old steps h old = sym (visit-stale steps slots q x st (λ z. h (sym there ∙ z)) (stale-is ∙ old))
 
-  pub visit-roads : (steps : ℕ) → u ≢ q .goal → (getD (a .penalised) u nan <ᶠ g) ≡ false → (o : Relaxed) (b : ℕ → ℕ → Columns)
+  pub visit-roads : (steps : ℕ) → u ≢ q .goal → (kept <ᶠ g) ≡ false → (o : Relaxed) (b : ℕ → ℕ → Columns)
       → outcome o (λ l m. state-of roads n (b l m)) ≡ relax-all slots q (entry-from u g) (q .leaving u) st
       → step-of steps q (turn-of slots o .progress) (state-of roads n (b (turn-of slots o .len) (turn-of slots o .made))) ≡ visit steps slots q x st
   unfolding expanded
-  visit-roads steps h old o b is = by o is ∙ ap expanded (sym (relax-all-from slots q x (q .leaving u) st)) ∙ sym (visit-opened steps slots q x st h (stale-is ∙ old))
+  visit-roads steps h old o b is = by o is ∙ ap expanded ((λ i. relax-all slots q (entry-from (sym there i) (sym costs i)) (q .leaving (sym there i)) st) ∙ sym (relax-all-from slots q x (q .leaving (x .node)) st)) ∙ sym (visit-opened steps slots q x st (λ z. h (sym there ∙ z)) (stale-is ∙ old))
     where
       by : (o : Relaxed) → outcome o (λ l m. state-of roads n (b l m)) ≡ relax-all slots q (entry-from u g) (q .leaving u) st
           → step-of steps q (turn-of slots o .progress) (state-of roads n (b (turn-of slots o .len) (turn-of slots o .made))) ≡ expanded (relax-all slots q (entry-from u g) (q .leaving u) st)
@@ -66,7 +62,7 @@ module _ {n e slots : ℕ} {a : Columns} (roads : ℕ → Road) (q : Query) (ok 
       by R.Full is = ap expanded is
 
 -- at the goal the heap counts as empty
-pub found-proper : {n e slots : ℕ} {a : Columns} → Proper n e slots a → Proper n e slots (columns (a .real) (a .penalised) (a .came) (a .key) (a .cost) (a .node) (a .order) 0 (a .made))
+pub found-proper : {n e slots : ℕ} {a : Columns} → Proper n e slots a → Proper n e slots (parts (a .real) (a .penalised) (a .came) (a .key) (a .cost) (a .node) (a .order) 0 (a .made))
 found-proper {a} ok = reordered ok (a .order) 0 refl (omega arith) (λ j h. absurd (omega arith))
 
 pub turn-went : {n e slots : ℕ} {a : Columns} → (goal : ℕ) → Proper n e slots a → (o : Relaxed) (b : ℕ → ℕ → Columns) → ((l m : ℕ) → (b l m .len ≡ l) × (b l m .made ≡ m)) → After n e slots a o b

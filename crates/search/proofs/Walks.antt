@@ -148,7 +148,7 @@ module _ (route turned : List ℕ) (k : ℕ) (h : k ≤ length route) (is : turn
 pub arrived-back : {n e : ℕ} {roads : ℕ → Road} {goal : ℕ} {p : Progress} {came : List ℕ} → p ≡ P.Found → Arrives n e roads goal p came → Back n e roads came goal
 arrived-back is h = rw is at h
 
-pub found-there : (roads : ℕ → Road) (n : ℕ) (real penalised : List Float) (came : List ℕ) (goal : ℕ) {shown way : List Road} → goal < n → getD came goal 0 ≢ unreached → shown ≡ way
-    → found (getD real goal nan) shown ≡ found (real-of (label-at (labels-of roads n real penalised came) goal)) way
-found-there roads n real penalised came goal inside reached is =
-    rw (is, label-is roads n real penalised came goal inside, real-reached roads (getD real goal nan) (getD penalised goal nan) (getD came goal 0) reached)
+pub found-there : (roads : ℕ → Road) (n : ℕ) (real penalised : List Float) (came : List ℕ) (goal : ℕ) {shown way : List Road} {x : Float} → goal < n → getD came goal 0 ≢ unreached → shown ≡ way → getD real goal nan ≡ x
+    → found x shown ≡ found (real-of (label-at (labels-of roads n real penalised came) goal)) way
+found-there roads n real penalised came goal inside reached is e =
+    (λ i. found (sym e i) (is i)) ∙ rw (label-is roads n real penalised came goal inside, real-reached roads (getD real goal nan) (getD penalised goal nan) (getD came goal 0) reached)

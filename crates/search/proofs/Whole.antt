@@ -15,21 +15,10 @@ use Rattle.search.specs.declared.Ask.{Ask}
 use Rattle.search.specs.declared.turns.Progress.{Progress}
 use Rattle.search.specs.declared.turns.Progress.the-variants as P
 use Rattle.search.specs.Ask.{asked}
-use Rattle.search.specs.Areas.{labels-of, Columns, Sized}
+use Rattle.search.specs.Areas.{labels-of, Columns}
 use Rattle.search.specs.Answers.{arrived, ended, Stands, Arrives}
 use Rattle.search.proofs.Roads.{roads-few, source-within, asked-ways}
 use Rattle.search.proofs.Walks.{ends-there}
-
-pub sized-one : {n slots : ℕ} {a : Columns} → 0 < slots → Sized n slots a → Sized n 1 a
-sized-one h f = record {
-  real = f .real;
-  penalised = f .penalised;
-  came = f .came;
-  key = omega (arith, f .key);
-  cost = omega (arith, f .cost);
-  node = omega (arith, f .node);
-  order = omega (arith, f .order);
-}
 
 pub asked-nodes : (s : List ℕ) (c : Counts) (ask : Ask) → asked (sheet-of s c) ask .nodes ≡ c .n
 unfolding asked

@@ -6,7 +6,7 @@ use mathlib.Core.Bool.{cond}
 use mathlib.Core.Option.{Option, none, some}
 use mathlib.Core.List.{List}
 use lib.Dec.{eqb}
-use lib.ListN.{length, getD, take}
+use lib.ListN.{length, getD, take, drop}
 use lib.Ieee.{Float, nan}
 use Rattle.model.specs.declared.Counts.{Counts}
 use Rattle.model.specs.declared.Road.{Road}
@@ -64,8 +64,12 @@ pub record Columns : Type 0 where
   pub len : ℕ
   pub made : ℕ
 
-abbrev pub columns : List Float → List Float → List ℕ → List Float → List Float → List ℕ → List ℕ → ℕ → ℕ → Columns
-columns real penalised came key cost node order len made = record { real = real; penalised = penalised; came = came; key = key; cost = cost; node = node; order = order; len = len; made = made }
+abbrev pub parts : List Float → List Float → List ℕ → List Float → List Float → List ℕ → List ℕ → ℕ → ℕ → Columns
+parts real penalised came key cost node order len made = record { real = real; penalised = penalised; came = came; key = key; cost = cost; node = node; order = order; len = len; made = made }
+
+-- The areas as they are lent: real costs and behind them penalised ones, n of each; keys and behind them costs, the heap's order and behind it the entries' nodes, `slots` of each.
+abbrev pub columns : ℕ → ℕ → List Float → List ℕ → List Float → List ℕ → ℕ → ℕ → Columns
+columns n slots labels came entries links len made = parts (take n labels) (drop n labels) came (take slots entries) (drop slots entries) (drop slots links) (take slots links) len made
 
 abbrev pub state-of : (ℕ → Road) → ℕ → Columns → State
 state-of roads n a = record {
@@ -75,8 +79,8 @@ state-of roads n a = record {
 }
 
 -- over the sheet that s holds
-abbrev pub labels-at : List ℕ → Counts → List Float → List Float → List ℕ → List (Option Label)
-labels-at s c real penalised came = labels-of (road-at (sheet-of s c)) (c .n) real penalised came
+abbrev pub labels-at : List ℕ → Counts → List Float → List ℕ → List (Option Label)
+labels-at s c labels came = labels-of (road-at (sheet-of s c)) (c .n) (take (c .n) labels) (drop (c .n) labels) came
 
 abbrev pub state-at : List ℕ → Counts → Columns → State
 state-at s c a = state-of (road-at (sheet-of s c)) (c .n) a

@@ -23,29 +23,26 @@ fn clear(came_from: &mut [usize], n: usize)
 
 // The start's label, and one entry for it in the heap; `ahead` is its distance to the goal.
 pub fn prepare(
-    real: &mut [f64],
-    penalised: &mut [f64],
+    labels: &mut [f64],
     came_from: &mut [usize],
-    key: &mut [f64],
-    cost: &mut [f64],
-    node: &mut [usize],
-    order: &mut [usize],
+    entries: &mut [f64],
+    links: &mut [usize],
     n: usize,
+    slots: usize,
     start: usize,
     ahead: f64,
 )
-    requires { ⌜ (start < n) × Sized n 1 (columns (now real) (now penalised) (now «came_from») (now key) (now cost) (now node) (now order) 0 0) ⌝ }
+    requires { ⌜ (start < n) × (0 < slots) × Sized n slots (columns n slots (now labels) (now «came_from») (now entries) (now links) 0 0) ⌝ }
     ensures state { λ _. ⌜ ((roads : ℕ → Road) (q : Query) → q .nodes ≡ n → q .ahead start ≡ ahead
-        → state-of roads n (columns (now (real .exit)) (now (penalised .exit)) (now («came_from» .exit)) (now (key .exit)) (now (cost .exit)) (now (node .exit)) (now (order .exit)) 1 1) ≡ begun q start) ⌝ }
-    ensures proper { λ _. ⌜ ((e slots : ℕ) → 0 < slots → Sized n slots (columns (now (real .entry)) (now (penalised .entry)) (now («came_from» .entry)) (now (key .entry)) (now (cost .entry)) (now (node .entry)) (now (order .entry)) 0 0)
-        → Proper n e slots (columns (now (real .exit)) (now (penalised .exit)) (now («came_from» .exit)) (now (key .exit)) (now (cost .exit)) (now (node .exit)) (now (order .exit)) 1 1)) ⌝ }
+        → state-of roads n (columns n slots (now (labels .exit)) (now («came_from» .exit)) (now (entries .exit)) (now (links .exit)) 1 1) ≡ begun q start) ⌝ }
+    ensures proper { λ _. ⌜ ((e : ℕ) → Proper n e slots (columns n slots (now (labels .exit)) (now («came_from» .exit)) (now (entries .exit)) (now (links .exit)) 1 1)) ⌝ }
 {
     clear(came_from, n);
-    real[start] = 0.0;
-    penalised[start] = 0.0;
+    labels[start] = 0.0;
+    labels[n + start] = 0.0;
     came_from[start] = AT_START;
-    key[0] = ahead;
-    cost[0] = 0.0;
-    node[0] = start;
-    order[0] = 0;
+    entries[0] = ahead;
+    entries[slots] = 0.0;
+    links[0] = 0;
+    links[slots] = start;
 }

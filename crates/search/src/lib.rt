@@ -49,49 +49,22 @@ fn search_from_start(
     c: Counts,
     ask: Ask,
     slots: usize,
-    real: &mut [f64],
-    penalised: &mut [f64],
+    labels: &mut [f64],
     came_from: &mut [usize],
-    key: &mut [f64],
-    cost: &mut [f64],
-    node: &mut [usize],
-    order: &mut [usize],
+    entries: &mut [f64],
+    links: &mut [usize],
 ) -> Turn
-    requires { ⌜ WellFormed (now s) c × (ask .start < c .n) × (0 < slots) × Sized (c .n) slots (columns (now real) (now penalised) (now «came_from») (now key) (now cost) (now node) (now order) 0 0) ⌝ }
-    ensures stands { λ t. ⌜ Stands (c .n) (c .e) slots (ask .goal) (t .progress) (columns (now (real .exit)) (now (penalised .exit)) (now («came_from» .exit)) (now (key .exit)) (now (cost .exit)) (now (node .exit)) (now (order .exit)) (t .len) (t .made)) ⌝ }
-    ensures found { λ t. ⌜ ((steps : ℕ) → ended steps (query-at (now (s .entry)) c ask) (t .progress) (labels-at (now (s .entry)) c (now (real .exit)) (now (penalised .exit)) (now («came_from» .exit)))
+    requires { ⌜ WellFormed (now s) c × (ask .start < c .n) × (0 < slots) × Sized (c .n) slots (columns (c .n) slots (now labels) (now «came_from») (now entries) (now links) 0 0) ⌝ }
+    ensures stands { λ t. ⌜ Stands (c .n) (c .e) slots (ask .goal) (t .progress) (columns (c .n) slots (now (labels .exit)) (now («came_from» .exit)) (now (entries .exit)) (now (links .exit)) (t .len) (t .made)) ⌝ }
+    ensures found { λ t. ⌜ ((steps : ℕ) → ended steps (query-at (now (s .entry)) c ask) (t .progress) (labels-at (now (s .entry)) c (now (labels .exit)) (now («came_from» .exit)))
         ≡ search-within steps slots slots (query-at (now (s .entry)) c ask) (ask .start)) ⌝ }
 {
     let n = c.n;
     let start = ask.start;
     let row = distances::goal_row(s, c, ask.goal);
     let far = query::ahead(s, c, ask, row, start);
-    begin::prepare(
-        real,
-        penalised,
-        came_from,
-        key,
-        cost,
-        node,
-        order,
-        n,
-        start,
-        far,
-    );
-    turns::run_search(
-        s,
-        c,
-        ask,
-        row,
-        slots,
-        real,
-        penalised,
-        came_from,
-        key,
-        cost,
-        node,
-        order,
-    )
+    begin::prepare(labels, came_from, entries, links, n, slots, start, far);
+    turns::run_search(s, c, ask, row, slots, labels, came_from, entries, links)
 }
 
 // The bounded A* search from `ask.start` to `ask.goal`, with a heap of `slots` entries. The roads found stand in the front of `route`, in travel order.
@@ -101,36 +74,21 @@ pub fn bounded_astar(
     c: Counts,
     ask: Ask,
     slots: usize,
-    real: &mut [f64],
-    penalised: &mut [f64],
+    labels: &mut [f64],
     came_from: &mut [usize],
     route: &mut [usize],
-    key: &mut [f64],
-    cost: &mut [f64],
-    node: &mut [usize],
-    order: &mut [usize],
+    entries: &mut [f64],
+    links: &mut [usize],
 ) -> Searched
     requires { ⌜ WellFormed (now s) c × (ask .start < c .n) × (ask .goal < c .n) × Amount (ask .slip) × Amount (ask .access) ⌝ }
-    requires { ⌜ (0 < slots) × (c .n ≤ length (now route)) × Sized (c .n) slots (columns (now real) (now penalised) (now «came_from») (now key) (now cost) (now node) (now order) 0 0) ⌝ }
+    requires { ⌜ (0 < slots) × (c .n ≤ length (now route)) × Sized (c .n) slots (columns (c .n) slots (now labels) (now «came_from») (now entries) (now links) 0 0) ⌝ }
     ensures found { λ r. ⌜ answer (road-at (sheet-of (now (s .entry)) c)) (r .search) (now (route .exit)) ≡ bounded-astar slots (asked (sheet-of (now (s .entry)) c) ask) (ask .start) ⌝ }
     ensures entries { λ r. ⌜ r .entries ≤ slots ⌝ }
     ensures holds { λ r. ⌜ Holds (c .n) (c .e) (r .search) (now (route .exit)) ⌝ }
 {
-    let t = search_from_start(
-        s,
-        c,
-        ask,
-        slots,
-        real,
-        penalised,
-        came_from,
-        key,
-        cost,
-        node,
-        order,
-    );
+    let t = search_from_start(s, c, ask, slots, labels, came_from, entries, links);
     let progress = t.progress;
     let entries = t.made;
-    let search = route::trace_route(s, c, ask, progress, real, came_from, route);
+    let search = route::trace_route(s, c, ask, progress, labels, came_from, route);
     Searched { search, entries }
 }

@@ -31,37 +31,35 @@ fn enter(
     ask: Ask,
     row: GoalRow,
     slots: usize,
-    real: &mut [f64],
-    penalised: &mut [f64],
+    labels: &mut [f64],
     came_from: &mut [usize],
-    key: &mut [f64],
-    cost: &mut [f64],
-    node: &mut [usize],
-    order: &mut [usize],
+    entries: &mut [f64],
+    links: &mut [usize],
     len: usize,
     made: usize,
     r: Road,
     a: f64,
     b: f64,
 ) -> Relaxed
-    requires { ⌜ Ready (now s) c ask row × Proper (c .n) (c .e) slots (columns (now real) (now penalised) (now «came_from») (now key) (now cost) (now node) (now order) len made) × (r .target < c .n) × (r .number < c .e) ⌝ }
-    ensures kept { λ o. ⌜ After (c .n) (c .e) slots (columns (now (real .entry)) (now (penalised .entry)) (now («came_from» .entry)) (now (key .entry)) (now (cost .entry)) (now (node .entry)) (now (order .entry)) len made)
-        o (columns (now (real .exit)) (now (penalised .exit)) (now («came_from» .exit)) (now (key .exit)) (now (cost .exit)) (now (node .exit)) (now (order .exit))) ⌝ }
-    ensures state { λ o. ⌜ outcome o (λ l m. state-at (now (s .entry)) c (columns (now (real .exit)) (now (penalised .exit)) (now («came_from» .exit)) (now (key .exit)) (now (cost .exit)) (now (node .exit)) (now (order .exit)) l m))
-        ≡ entered slots (query-at (now (s .entry)) c ask) (state-at (now (s .entry)) c (columns (now (real .entry)) (now (penalised .entry)) (now («came_from» .entry)) (now (key .entry)) (now (cost .entry)) (now (node .entry)) (now (order .entry)) len made))
+    requires { ⌜ Ready (now s) c ask row × Proper (c .n) (c .e) slots (columns (c .n) slots (now labels) (now «came_from») (now entries) (now links) len made) × (r .target < c .n) × (r .number < c .e) ⌝ }
+    ensures kept { λ o. ⌜ After (c .n) (c .e) slots (columns (c .n) slots (now (labels .entry)) (now («came_from» .entry)) (now (entries .entry)) (now (links .entry)) len made)
+        o (columns (c .n) slots (now (labels .exit)) (now («came_from» .exit)) (now (entries .exit)) (now (links .exit))) ⌝ }
+    ensures state { λ o. ⌜ outcome o (λ l m. state-at (now (s .entry)) c (columns (c .n) slots (now (labels .exit)) (now («came_from» .exit)) (now (entries .exit)) (now (links .exit)) l m))
+        ≡ entered slots (query-at (now (s .entry)) c ask) (state-at (now (s .entry)) c (columns (c .n) slots (now (labels .entry)) (now («came_from» .entry)) (now (entries .entry)) (now (links .entry)) len made))
         (r .target) record { real = a; penalised = b; came-from = some (road-at (sheet-of (now (s .entry)) c) (r .number)) } ⌝ }
 {
     if slots <= made {
         return Relaxed::Full;
     }
     let v = r.target;
-    real[v] = a;
-    penalised[v] = b;
+    let n = c.n;
+    labels[v] = a;
+    labels[n + v] = b;
     came_from[v] = r.number;
-    key[made] = b + query::ahead(s, c, ask, row, v);
-    cost[made] = b;
-    node[made] = v;
-    heap::push(order, key, len, made);
+    entries[made] = b + query::ahead(s, c, ask, row, v);
+    entries[slots + made] = b;
+    links[slots + made] = v;
+    heap::push(&mut links[..slots], entries, len, made);
     let longer = len + 1;
     let more = made + 1;
     Relaxed::Done(longer, more)
@@ -74,29 +72,35 @@ fn relax(
     ask: Ask,
     row: GoalRow,
     slots: usize,
-    real: &mut [f64],
-    penalised: &mut [f64],
+    labels: &mut [f64],
     came_from: &mut [usize],
-    key: &mut [f64],
-    cost: &mut [f64],
-    node: &mut [usize],
-    order: &mut [usize],
+    entries: &mut [f64],
+    links: &mut [usize],
     len: usize,
     made: usize,
     u: usize,
     g: f64,
     r: Road,
 ) -> Relaxed
-    requires { ⌜ Ready (now s) c ask row × Proper (c .n) (c .e) slots (columns (now real) (now penalised) (now «came_from») (now key) (now cost) (now node) (now order) len made) ⌝ }
+    requires { ⌜ Ready (now s) c ask row × Proper (c .n) (c .e) slots (columns (c .n) slots (now labels) (now «came_from») (now entries) (now links) len made) ⌝ }
     requires { ⌜ (u < c .n) × (getD (now «came_from») u 0 ≢ unreached) × (r .target < c .n) × (r .number < c .e) × (road-at (sheet-of (now s) c) (r .number) ≡ r) ⌝ }
-    ensures kept { λ o. ⌜ After (c .n) (c .e) slots (columns (now (real .entry)) (now (penalised .entry)) (now («came_from» .entry)) (now (key .entry)) (now (cost .entry)) (now (node .entry)) (now (order .entry)) len made)
-        o (columns (now (real .exit)) (now (penalised .exit)) (now («came_from» .exit)) (now (key .exit)) (now (cost .exit)) (now (node .exit)) (now (order .exit))) ⌝ }
-    ensures state { λ o. ⌜ outcome o (λ l m. state-at (now (s .entry)) c (columns (now (real .exit)) (now (penalised .exit)) (now («came_from» .exit)) (now (key .exit)) (now (cost .exit)) (now (node .exit)) (now (order .exit)) l m))
-        ≡ relax slots (query-at (now (s .entry)) c ask) (entry-from u g) (state-at (now (s .entry)) c (columns (now (real .entry)) (now (penalised .entry)) (now («came_from» .entry)) (now (key .entry)) (now (cost .entry)) (now (node .entry)) (now (order .entry)) len made)) r ⌝ }
+    ensures kept { λ o. ⌜ After (c .n) (c .e) slots (columns (c .n) slots (now (labels .entry)) (now («came_from» .entry)) (now (entries .entry)) (now (links .entry)) len made)
+        o (columns (c .n) slots (now (labels .exit)) (now («came_from» .exit)) (now (entries .exit)) (now (links .exit))) ⌝ }
+    ensures state { λ o. ⌜ outcome o (λ l m. state-at (now (s .entry)) c (columns (c .n) slots (now (labels .exit)) (now («came_from» .exit)) (now (entries .exit)) (now (links .exit)) l m))
+        ≡ relax slots (query-at (now (s .entry)) c ask) (entry-from u g) (state-at (now (s .entry)) c (columns (c .n) slots (now (labels .entry)) (now («came_from» .entry)) (now (entries .entry)) (now (links .entry)) len made)) r ⌝ }
 {
     let v = r.target;
+    let n = c.n;
     let extra = query::penalty(ask, r);
-    let o = offer_of(ask.bound, real[u], g, r, extra, penalised[v], came_from[v]);
+    let o = offer_of(
+        ask.bound,
+        labels[u],
+        g,
+        r,
+        extra,
+        labels[n + v],
+        came_from[v],
+    );
     match o {
         Offer::Keep => Relaxed::Done(len, made),
         Offer::Better(a, b) => enter(
@@ -105,13 +109,10 @@ fn relax(
             ask,
             row,
             slots,
-            real,
-            penalised,
+            labels,
             came_from,
-            key,
-            cost,
-            node,
-            order,
+            entries,
+            links,
             len,
             made,
             r,
@@ -128,25 +129,22 @@ pub fn relax_all(
     ask: Ask,
     row: GoalRow,
     slots: usize,
-    real: &mut [f64],
-    penalised: &mut [f64],
+    labels: &mut [f64],
     came_from: &mut [usize],
-    key: &mut [f64],
-    cost: &mut [f64],
-    node: &mut [usize],
-    order: &mut [usize],
+    entries: &mut [f64],
+    links: &mut [usize],
     first_len: usize,
     first_made: usize,
     u: usize,
     g: f64,
 ) -> Relaxed
-    requires { ⌜ Ready (now s) c ask row × Proper (c .n) (c .e) slots (columns (now real) (now penalised) (now «came_from») (now key) (now cost) (now node) (now order) «first_len» «first_made») ⌝ }
+    requires { ⌜ Ready (now s) c ask row × Proper (c .n) (c .e) slots (columns (c .n) slots (now labels) (now «came_from») (now entries) (now links) «first_len» «first_made») ⌝ }
     requires { ⌜ (u < c .n) × (getD (now «came_from») u 0 ≢ unreached) ⌝ }
-    ensures kept { λ o. ⌜ After (c .n) (c .e) slots (columns (now (real .entry)) (now (penalised .entry)) (now («came_from» .entry)) (now (key .entry)) (now (cost .entry)) (now (node .entry)) (now (order .entry)) «first_len» «first_made»)
-        o (columns (now (real .exit)) (now (penalised .exit)) (now («came_from» .exit)) (now (key .exit)) (now (cost .exit)) (now (node .exit)) (now (order .exit))) ⌝ }
-    ensures state { λ o. ⌜ outcome o (λ l m. state-at (now (s .entry)) c (columns (now (real .exit)) (now (penalised .exit)) (now («came_from» .exit)) (now (key .exit)) (now (cost .exit)) (now (node .exit)) (now (order .exit)) l m))
+    ensures kept { λ o. ⌜ After (c .n) (c .e) slots (columns (c .n) slots (now (labels .entry)) (now («came_from» .entry)) (now (entries .entry)) (now (links .entry)) «first_len» «first_made»)
+        o (columns (c .n) slots (now (labels .exit)) (now («came_from» .exit)) (now (entries .exit)) (now (links .exit))) ⌝ }
+    ensures state { λ o. ⌜ outcome o (λ l m. state-at (now (s .entry)) c (columns (c .n) slots (now (labels .exit)) (now («came_from» .exit)) (now (entries .exit)) (now (links .exit)) l m))
         ≡ relax-all slots (query-at (now (s .entry)) c ask) (entry-from u g) (query-at (now (s .entry)) c ask .leaving u)
-        (state-at (now (s .entry)) c (columns (now (real .entry)) (now (penalised .entry)) (now («came_from» .entry)) (now (key .entry)) (now (cost .entry)) (now (node .entry)) (now (order .entry)) «first_len» «first_made»)) ⌝ }
+        (state-at (now (s .entry)) c (columns (c .n) slots (now (labels .entry)) (now («came_from» .entry)) (now (entries .entry)) (now (links .entry)) «first_len» «first_made»)) ⌝ }
 {
     let mut len = first_len;
     let mut made = first_made;
@@ -163,13 +161,10 @@ pub fn relax_all(
                 ask,
                 row,
                 slots,
-                real,
-                penalised,
+                labels,
                 came_from,
-                key,
-                cost,
-                node,
-                order,
+                entries,
+                links,
                 len,
                 made,
                 u,

@@ -35,9 +35,9 @@ pub fn reverse(a: &mut [usize])
 // The roads from the goal back to the start, into the front of `route`: how many there are. A mark is no road's number.
 fn walk_back(s: &[u8], c: Counts, came_from: &[usize], route: &mut [usize], goal: usize) -> usize
     requires { ⌜ WellFormed (now s) c × (goal < c .n) × (c .n ≤ length (now route)) × Back (c .n) (c .e) (road-at (sheet-of (now s) c)) (now «came_from») goal ⌝ }
-    ensures { λ r. ⌜ (r ≤ c .n - 1) × Numbers (c .e) r (now (route .exit)) × ((real penalised : List Float)
+    ensures { λ r. ⌜ (r ≤ c .n - 1) × Numbers (c .e) r (now (route .exit)) × ((labels : List Float)
         → map (road-at (sheet-of (now (s .entry)) c)) (reverse (take r (now (route .exit))))
-        ≡ trace (c .n - 1) (labels-at (now (s .entry)) c real penalised (now («came_from» .entry))) goal []) ⌝ }
+        ≡ trace (c .n - 1) (labels-at (now (s .entry)) c labels (now («came_from» .entry))) goal []) ⌝ }
 {
     let mut i = 0;
     let mut k = came_from[goal];
@@ -56,13 +56,13 @@ pub fn trace_route(
     c: Counts,
     ask: Ask,
     progress: Progress,
-    real: &[f64],
+    labels: &[f64],
     came_from: &[usize],
     route: &mut [usize],
 ) -> Search
-    requires { ⌜ WellFormed (now s) c × (ask .goal < c .n) × (c .n ≤ length (now route)) × (c .n ≤ length (now real)) × Arrives (c .n) (c .e) (road-at (sheet-of (now s) c)) (ask .goal) progress (now «came_from») ⌝ }
-    ensures found { λ r. ⌜ ((penalised : List Float) → answer (road-at (sheet-of (now (s .entry)) c)) r (now (route .exit))
-        ≡ ended (c .n - 1) (query-at (now (s .entry)) c ask) progress (labels-at (now (s .entry)) c (now (real .entry)) penalised (now («came_from» .entry)))) ⌝ }
+    requires { ⌜ WellFormed (now s) c × (ask .goal < c .n) × (c .n ≤ length (now route)) × (c .n ≤ length (now labels)) × Arrives (c .n) (c .e) (road-at (sheet-of (now s) c)) (ask .goal) progress (now «came_from») ⌝ }
+    ensures found { λ r. ⌜ answer (road-at (sheet-of (now (s .entry)) c)) r (now (route .exit))
+        ≡ ended (c .n - 1) (query-at (now (s .entry)) c ask) progress (labels-at (now (s .entry)) c (now (labels .entry)) (now («came_from» .entry))) ⌝ }
     ensures holds { λ r. ⌜ Holds (c .n) (c .e) r (now (route .exit)) ⌝ }
 {
     match progress {
@@ -72,7 +72,7 @@ pub fn trace_route(
             let goal = ask.goal;
             let n = walk_back(s, c, came_from, route, goal);
             reverse(&mut route[..n]);
-            let x = real[goal];
+            let x = labels[goal];
             Search::Found(x, n)
         }
     }

@@ -6,6 +6,7 @@ use model::Counts;
 use sheet::distances::GoalRow;
 ghost use mathlib.Core.Path.{_≡_};
 ghost use Prim.Native.Nat.{ℕ, _<_};
+ghost use lib.ListN.{take, drop};
 ghost use Rattle.model.specs.Search.{visit, run};
 ghost use Rattle.search.specs.Ask.{query-at, Ready};
 ghost use Rattle.search.specs.Areas.{labels-at, entry-of, columns, state-at, Proper};
@@ -50,27 +51,25 @@ fn visit(
     ask: Ask,
     row: GoalRow,
     slots: usize,
-    real: &mut [f64],
-    penalised: &mut [f64],
+    labels: &mut [f64],
     came_from: &mut [usize],
-    key: &mut [f64],
-    cost: &mut [f64],
-    node: &mut [usize],
-    order: &mut [usize],
+    entries: &mut [f64],
+    links: &mut [usize],
     len: usize,
     made: usize,
     e: usize,
 ) -> Turn
-    requires { ⌜ Ready (now s) c ask row × Proper (c .n) (c .e) slots (columns (now real) (now penalised) (now «came_from») (now key) (now cost) (now node) (now order) len made) × (e < made) ⌝ }
-    ensures kept { λ t. ⌜ Went (c .n) (c .e) slots (ask .goal) (columns (now (real .entry)) (now (penalised .entry)) (now («came_from» .entry)) (now (key .entry)) (now (cost .entry)) (now (node .entry)) (now (order .entry)) len made)
-        (t .progress) (columns (now (real .exit)) (now (penalised .exit)) (now («came_from» .exit)) (now (key .exit)) (now (cost .exit)) (now (node .exit)) (now (order .exit)) (t .len) (t .made)) ⌝ }
-    ensures state { λ t. ⌜ ((steps : ℕ) → step-of steps (query-at (now (s .entry)) c ask) (t .progress) (state-at (now (s .entry)) c (columns (now (real .exit)) (now (penalised .exit)) (now («came_from» .exit)) (now (key .exit)) (now (cost .exit)) (now (node .exit)) (now (order .exit)) (t .len) (t .made)))
-        ≡ visit steps slots (query-at (now (s .entry)) c ask) (entry-of (now (key .entry)) (now (cost .entry)) (now (node .entry)) e)
-        (state-at (now (s .entry)) c (columns (now (real .entry)) (now (penalised .entry)) (now («came_from» .entry)) (now (key .entry)) (now (cost .entry)) (now (node .entry)) (now (order .entry)) len made))) ⌝ }
+    requires { ⌜ Ready (now s) c ask row × Proper (c .n) (c .e) slots (columns (c .n) slots (now labels) (now «came_from») (now entries) (now links) len made) × (e < made) ⌝ }
+    ensures kept { λ t. ⌜ Went (c .n) (c .e) slots (ask .goal) (columns (c .n) slots (now (labels .entry)) (now («came_from» .entry)) (now (entries .entry)) (now (links .entry)) len made)
+        (t .progress) (columns (c .n) slots (now (labels .exit)) (now («came_from» .exit)) (now (entries .exit)) (now (links .exit)) (t .len) (t .made)) ⌝ }
+    ensures state { λ t. ⌜ ((steps : ℕ) → step-of steps (query-at (now (s .entry)) c ask) (t .progress) (state-at (now (s .entry)) c (columns (c .n) slots (now (labels .exit)) (now («came_from» .exit)) (now (entries .exit)) (now (links .exit)) (t .len) (t .made)))
+        ≡ visit steps slots (query-at (now (s .entry)) c ask) (entry-of (take slots (now (entries .entry))) (drop slots (now (entries .entry))) (drop slots (now (links .entry))) e)
+        (state-at (now (s .entry)) c (columns (c .n) slots (now (labels .entry)) (now («came_from» .entry)) (now (entries .entry)) (now (links .entry)) len made))) ⌝ }
 {
-    let u = node[e];
-    let g = cost[e];
-    let kept = penalised[u];
+    let u = links[slots + e];
+    let g = entries[slots + e];
+    let n = c.n;
+    let kept = labels[n + u];
     if u == ask.goal {
         return Turn {
             progress: Progress::Found,
@@ -91,13 +90,10 @@ fn visit(
         ask,
         row,
         slots,
-        real,
-        penalised,
+        labels,
         came_from,
-        key,
-        cost,
-        node,
-        order,
+        entries,
+        links,
         len,
         made,
         u,
@@ -113,18 +109,15 @@ pub fn run_search(
     ask: Ask,
     row: GoalRow,
     slots: usize,
-    real: &mut [f64],
-    penalised: &mut [f64],
+    labels: &mut [f64],
     came_from: &mut [usize],
-    key: &mut [f64],
-    cost: &mut [f64],
-    node: &mut [usize],
-    order: &mut [usize],
+    entries: &mut [f64],
+    links: &mut [usize],
 ) -> Turn
-    requires { ⌜ Ready (now s) c ask row × Proper (c .n) (c .e) slots (columns (now real) (now penalised) (now «came_from») (now key) (now cost) (now node) (now order) 1 1) ⌝ }
-    ensures stands { λ t. ⌜ Stands (c .n) (c .e) slots (ask .goal) (t .progress) (columns (now (real .exit)) (now (penalised .exit)) (now («came_from» .exit)) (now (key .exit)) (now (cost .exit)) (now (node .exit)) (now (order .exit)) (t .len) (t .made)) ⌝ }
-    ensures found { λ t. ⌜ ((steps : ℕ) → ended steps (query-at (now (s .entry)) c ask) (t .progress) (labels-at (now (s .entry)) c (now (real .exit)) (now (penalised .exit)) (now («came_from» .exit)))
-        ≡ run steps slots slots (query-at (now (s .entry)) c ask) (state-at (now (s .entry)) c (columns (now (real .entry)) (now (penalised .entry)) (now («came_from» .entry)) (now (key .entry)) (now (cost .entry)) (now (node .entry)) (now (order .entry)) 1 1))) ⌝ }
+    requires { ⌜ Ready (now s) c ask row × Proper (c .n) (c .e) slots (columns (c .n) slots (now labels) (now «came_from») (now entries) (now links) 1 1) ⌝ }
+    ensures stands { λ t. ⌜ Stands (c .n) (c .e) slots (ask .goal) (t .progress) (columns (c .n) slots (now (labels .exit)) (now («came_from» .exit)) (now (entries .exit)) (now (links .exit)) (t .len) (t .made)) ⌝ }
+    ensures found { λ t. ⌜ ((steps : ℕ) → ended steps (query-at (now (s .entry)) c ask) (t .progress) (labels-at (now (s .entry)) c (now (labels .exit)) (now («came_from» .exit)))
+        ≡ run steps slots slots (query-at (now (s .entry)) c ask) (state-at (now (s .entry)) c (columns (c .n) slots (now (labels .entry)) (now («came_from» .entry)) (now (entries .entry)) (now (links .entry)) 1 1))) ⌝ }
 {
     let mut t = Turn {
         progress: Progress::Looking,
@@ -134,7 +127,7 @@ pub fn run_search(
     while 0 < t.len {
         let len = t.len;
         let made = t.made;
-        let e = heap::pop(order, key, len);
+        let e = heap::pop(&mut links[..slots], entries, len);
         let left = len - 1;
         t = visit(
             s,
@@ -142,13 +135,10 @@ pub fn run_search(
             ask,
             row,
             slots,
-            real,
-            penalised,
+            labels,
             came_from,
-            key,
-            cost,
-            node,
-            order,
+            entries,
+            links,
             left,
             made,
             e,

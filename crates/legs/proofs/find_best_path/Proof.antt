@@ -14,7 +14,7 @@ use Rattle.legs.proofs.find_best_path.Statement.{statement}
 use Rattle.legs.proofs.find_best_path.Tie as tie
 
 try-same-edge-solution-requires : tie.Need-try-same-edge-solution-requires
-try-same-edge-solution-requires c κs = let p = c .before .before .before .before .before .before .before .before .before .before .pre .0 in (p .0, p .3, p .4)
+try-same-edge-solution-requires c κs = let p = c .before .before .before .before .before .before .before .pre .0 in (p .0, p .3, p .4)
 
 without-middle-requires : tie.Need-without-middle-requires
 without-middle-requires c κs = search needs
@@ -23,9 +23,9 @@ best-or-none-requires : tie.Need-best-or-none-requires
 best-or-none-requires c κs = search needs
 
 returns : tie.Need-returns
-returns c = let a = c .before .before .before .before .before .before .before .before .before .before .before .before .before .before .args in let p = c .before .before .before .before .before .before .before .before .before .before .before .before .before .before .pre .0 in
+returns c = let a = c .before .before .before .before .before .before .before .before .before .before .before .args in let p = c .before .before .before .before .before .before .before .before .before .before .before .pre .0 in
     let t = sheet-of (a .s .now) (a .c) in
-    let ten = ten-pairs t (a .c) (a .starts) (a .ends) (c .before .before .before .before .before .before .before .before .before .before .before .before .before .before .pre .0 .3) (c .before .before .before .before .before .before .before .before .before .before .before .before .before .before .pre .0 .4) in
+    let ten = ten-pairs t (a .c) (a .starts) (a .ends) (c .before .before .before .before .before .before .before .before .before .before .before .pre .0 .3) (c .before .before .before .before .before .before .before .before .before .before .before .pre .0 .4) in
     let same = c .before .before .before .try-same-edge-solution in
     let alone = c .before .without-middle in
     let best-route = a .best-route .now in (
@@ -34,7 +34,7 @@ returns c = let a = c .before .before .before .before .before .before .before .b
     )
 
 try-pairs-requires : tie.Need-try-pairs-requires
-try-pairs-requires c κs = let p = c .before .before .before .before .before .before .before .before .before .before .before .before .before .before .before .before .before .before .before .before .before .pre in
+try-pairs-requires c κs = let p = c .before .before .before .before .before .before .before .before .before .before .before .before .before .before .before .pre in
     ((p .0 .0, p .0 .1, p .0 .3, p .0 .4), p .1)
 
 ended-requires : tie.Need-ended-requires
@@ -58,23 +58,14 @@ same-length-5 c = search needs
 same-length-6 : tie.Need-same-length-6
 same-length-6 c = search needs
 
-same-length-7 : tie.Need-same-length-7
-same-length-7 c = search needs
-
-same-length-8 : tie.Need-same-length-8
-same-length-8 c = search needs
-
-same-length-9 : tie.Need-same-length-9
-same-length-9 c = search needs
-
 returns-2 : tie.Need-returns-2
-returns-2 c = let a = c .before .before .before .before .before .before .before .before .before .before .before .before .before .before .before .before .before .before .before .before .before .before .before .before .before .before .before .before .before .before .before .before .before .before .before .before .before .before .before .before .before .args in
+returns-2 c = let a = c .before .before .before .before .before .before .before .before .before .before .before .before .before .before .before .before .before .before .before .before .before .before .before .before .before .before .before .before .before .args in
     let t = sheet-of (a .s .now) (a .c) in
-    let ten = ten-pairs t (a .c) (a .starts) (a .ends) (c .before .before .before .before .before .before .before .before .before .before .before .before .before .before .before .before .before .before .before .before .before .before .before .before .before .before .before .before .before .before .before .before .before .before .before .before .before .before .before .before .before .pre .0 .3) (c .before .before .before .before .before .before .before .before .before .before .before .before .before .before .before .before .before .before .before .before .before .before .before .before .before .before .before .before .before .before .before .before .before .before .before .before .before .before .before .before .before .pre .0 .4) in
-    let same = c .before .before .before .before .before .before .before .before .before .before .before .before .before .before .before .before .before .before .before .before .before .before .before .before .before .before .before .before .before .before .try-same-edge-solution in
-    let best-route = c .before .before .before .before .before .before .before .before .before .before .before .before .before .before .before .before .before .before .before .try-pairs .last .1 .1 .1 .1 .1 .1 .1 .1 .1 .1 .1 .0 in (
-      c .ended .ensures .0 (road-at t) best-route ∙ by-pairs (a .b) (seek-at t (a .slots) (a .b)) (held t (a .starts)) (held t (a .ends)) (same .result) (λ roads area. same .ensures roads area ∙ ap (try-same-edge-solution (a .b)) ten) (road-at t) (c .before .before .before .before .before .before .before .before .before .before .before .before .before .before .before .before .before .before .before .before .before .before .before .before .before .before .before .before .before .if1 .left) (c .before .before .before .before .before .before .before .before .before .before .before .before .before .before .before .before .before .before .before .try-pairs .ensures .0 ∙ ap (λ (ps : List Pair). try-pairs (a .b) (seek-at t (a .slots) (a .b)) (sort by-sum ps) none) ten),
-      c .ended .ensures .1 (a .c .n) (a .c .e) best-route (c .before .before .before .before .before .before .before .before .before .before .before .before .before .before .before .before .before .before .before .try-pairs .ensures .1),
+    let ten = ten-pairs t (a .c) (a .starts) (a .ends) (c .before .before .before .before .before .before .before .before .before .before .before .before .before .before .before .before .before .before .before .before .before .before .before .before .before .before .before .before .before .pre .0 .3) (c .before .before .before .before .before .before .before .before .before .before .before .before .before .before .before .before .before .before .before .before .before .before .before .before .before .before .before .before .before .pre .0 .4) in
+    let same = c .before .before .before .before .before .before .before .before .before .before .before .before .before .before .before .before .before .before .before .before .before .try-same-edge-solution in
+    let best-route = c .before .before .before .before .before .before .before .before .before .before .before .before .before .try-pairs .last .1 .1 .1 .1 .1 .1 .1 .1 .1 .1 .0 in (
+      c .ended .ensures .0 (road-at t) best-route ∙ by-pairs (a .b) (seek-at t (a .slots) (a .b)) (held t (a .starts)) (held t (a .ends)) (same .result) (λ roads area. same .ensures roads area ∙ ap (try-same-edge-solution (a .b)) ten) (road-at t) (c .before .before .before .before .before .before .before .before .before .before .before .before .before .before .before .before .before .before .before .before .if1 .left) (c .before .before .before .before .before .before .before .before .before .before .before .before .before .try-pairs .ensures .0 ∙ ap (λ (ps : List Pair). try-pairs (a .b) (seek-at t (a .slots) (a .b)) (sort by-sum ps) none) ten),
+      c .ended .ensures .1 (a .c .n) (a .c .e) best-route (c .before .before .before .before .before .before .before .before .before .before .before .before .before .try-pairs .ensures .1),
     )
 
 pub find-best-path-spec : {M : Type 1} → statement M
@@ -93,7 +84,4 @@ find-best-path-spec =
     same-length-4
     same-length-5
     same-length-6
-    same-length-7
-    same-length-8
-    same-length-9
     returns-2)

@@ -2,6 +2,7 @@ use mathlib.Core.Path.{_∙_}
 use borrow.Author.Needs.{needs}
 use native.Mathlib.Omega.{arith}
 use Rattle.search.specs.Areas.{columns}
+use Rattle.search.proofs.Halves.{halves-length}
 use Rattle.search.proofs.Whole.{stands-room, whole, arrives}
 use Rattle.search.proofs.bounded_astar.Statement.{statement}
 use Rattle.search.proofs.bounded_astar.Tie as tie
@@ -11,14 +12,14 @@ search-from-start-requires c κs = search needs
 
 trace-route-requires : tie.Need-trace-route-requires
 trace-route-requires c κs =
-    let start = c .before .before .before .before .before .before .before .before .before .before .before .before .before .before .before .before .before .before .before .before .before .before .before .before .before .before .before .before .before .before .before .before .before .before in
-    let search-from-start = c .before .before .before .before .before .before .before .before .before .before .before .before .before .before .before .before .before .search-from-start in
+    let start = c .before .before .before .before .before .before .before .before .before .before .before .before .before .before .before .before .before .before .before .before .before .before in
+    let search-from-start = c .before .before .before .before .before .before .before .before .before .before .before .search-from-start in
     let p = start .pre in
     let t = search-from-start .result in
     let l = search-from-start .last .1 .1 .1 .1 in
-    let after = columns (l .0) (l .1 .0) (l .1 .1 .0) (l .1 .1 .1 .0) (l .1 .1 .1 .1 .0) (l .1 .1 .1 .1 .1 .0) (l .1 .1 .1 .1 .1 .1 .0) (t .len) (t .made) in
+    let after = columns (start .args .c .n) (start .args .slots) (l .0) (l .1 .0) (l .1 .1 .0) (l .1 .1 .1 .0) (t .len) (t .made) in
     let arrived = arrives _ _ (p .0 .0) (start .args .ask) _ (p .0 .1) (p .0 .2) (p .1 .0) (p .0 .3) (p .0 .4) (t .progress) after (search-from-start .ensures .1) (search-from-start .ensures .0) in
-    (p .0 .0, p .0 .2, p .1 .1, omega (arith, search-from-start .kept .1 .1 .1 .1 .0, p .1 .2 .real), arrived)
+    (p .0 .0, p .0 .2, p .1 .1, omega (arith, search-from-start .kept .1 .1 .1 .1 .0, p .1 .2 .real, halves-length (start .args .c .n) (start .args .labels .now)), arrived)
 
 same-length : tie.Need-same-length
 same-length c = search needs
@@ -35,25 +36,16 @@ same-length-4 c = search needs
 same-length-5 : tie.Need-same-length-5
 same-length-5 c = search needs
 
-same-length-6 : tie.Need-same-length-6
-same-length-6 c = search needs
-
-same-length-7 : tie.Need-same-length-7
-same-length-7 c = search needs
-
-same-length-8 : tie.Need-same-length-8
-same-length-8 c = search needs
-
 returns : tie.Need-returns
 returns c =
-    let start = c .before .before .before .before .before .before .before .before .before .before .before .before .before .before .before .before .before .before .before .before .before .before .before .before .before .before .before .before .before .before .before .before .before .before .before .before .before in
-    let search-from-start = c .before .before .before .before .before .before .before .before .before .before .before .before .before .before .before .before .before .before .before .before .search-from-start in
+    let start = c .before .before .before .before .before .before .before .before .before .before .before .before .before .before .before .before .before .before .before .before .before .before .before .before .before in
+    let search-from-start = c .before .before .before .before .before .before .before .before .before .before .before .before .before .before .search-from-start in
     let p = start .pre in
     let t = search-from-start .result in
     let l = search-from-start .last .1 .1 .1 .1 in
-    let after = columns (l .0) (l .1 .0) (l .1 .1 .0) (l .1 .1 .1 .0) (l .1 .1 .1 .1 .0) (l .1 .1 .1 .1 .1 .0) (l .1 .1 .1 .1 .1 .1 .0) (t .len) (t .made) in
+    let after = columns (start .args .c .n) (start .args .slots) (l .0) (l .1 .0) (l .1 .1 .0) (l .1 .1 .1 .0) (t .len) (t .made) in
     let trace-route = c .before .before .trace-route in
-    (trace-route .ensures .0 (after .penalised) ∙ whole _ _ (p .0 .0) (start .args .ask) _ (p .0 .1) (p .0 .2) (p .1 .0) (p .0 .3) (p .0 .4) (t .progress) after (search-from-start .ensures .1), (stands-room _ _ _ _ (t .progress) after (search-from-start .ensures .0), trace-route .ensures .1))
+    (trace-route .ensures .0 ∙ whole _ _ (p .0 .0) (start .args .ask) _ (p .0 .1) (p .0 .2) (p .1 .0) (p .0 .3) (p .0 .4) (t .progress) after (search-from-start .ensures .1), (stands-room _ _ _ _ (t .progress) after (search-from-start .ensures .0), trace-route .ensures .1))
 
 pub bounded-astar-spec : {M : Type 1} → statement M
 bounded-astar-spec =
@@ -66,7 +58,4 @@ bounded-astar-spec =
     same-length-3
     same-length-4
     same-length-5
-    same-length-6
-    same-length-7
-    same-length-8
     returns)

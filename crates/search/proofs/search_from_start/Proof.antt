@@ -3,7 +3,7 @@ use borrow.Author.Needs.{needs}
 use Rattle.model.specs.Sheet.{sheet-of, road-at}
 use Rattle.model.specs.Search.{run, search-within}
 use Rattle.search.specs.Ask.{asked}
-use Rattle.search.proofs.Whole.{sized-one, asked-nodes}
+use Rattle.search.proofs.Whole.{asked-nodes}
 use Rattle.search.proofs.search_from_start.Statement.{statement}
 use Rattle.search.proofs.search_from_start.Tie as tie
 
@@ -15,16 +15,16 @@ ahead-requires c κs = search needs
 
 prepare-requires : tie.Need-prepare-requires
 prepare-requires c κs =
-    let start = c .before .before .before .before .before .before .before .before .before .before .before .before .before .before .before .before .before in
-    (start .pre .1, sized-one (start .pre .2) (start .pre .3))
+    let start = c .before .before .before .before .before .before .before .before .before .before .before in
+    (start .pre .1, start .pre .2, start .pre .3)
 
 run-search-requires : tie.Need-run-search-requires
 run-search-requires c κs =
-    let start = c .before .before .before .before .before .before .before .before .before .before .before .before .before .before .before .before .before .before .before .before .before .before .before .before .before .before .before .before .before .before .before .before .before .before .before .before .before .before .before in
-    let goal-row = c .before .before .before .before .before .before .before .before .before .before .before .before .before .before .before .before .before .before .before .before .before .before .before .before .before .before .before .before .before .before .goal-row in
-    let prepare = c .before .before .before .before .before .before .before .before .before .before .before .before .before .before .before .before .before .before .before .before .before .prepare in
+    let start = c .before .before .before .before .before .before .before .before .before .before .before .before .before .before .before .before .before .before .before .before .before .before .before .before in
+    let goal-row = c .before .before .before .before .before .before .before .before .before .before .before .before .before .before .before .before .before .before .goal-row in
+    let prepare = c .before .before .before .before .before .before .before .before .before .before .before .before .prepare in
     let p = start .pre in
-    (record { formed = p .0; goal-row = goal-row .ensures }, prepare .ensures .1 _ _ (p .2) (p .3))
+    (record { formed = p .0; goal-row = goal-row .ensures }, prepare .ensures .1 _)
 
 same-length : tie.Need-same-length
 same-length c = search needs
@@ -38,22 +38,13 @@ same-length-3 c = search needs
 same-length-4 : tie.Need-same-length-4
 same-length-4 c = search needs
 
-same-length-5 : tie.Need-same-length-5
-same-length-5 c = search needs
-
-same-length-6 : tie.Need-same-length-6
-same-length-6 c = search needs
-
-same-length-7 : tie.Need-same-length-7
-same-length-7 c = search needs
-
 returns : tie.Need-returns
 unfolding search-within
 returns c =
-    let start = c .before .before .before .before .before .before .before .before .before .before .before .before .before .before .before .before .before .before .before .before .before .before .before .before .before .before .before .before .before .before .before .before .before .before .before .before .before .before .before .before .before .before .before .before .before .before .before .before .before .before .before .before .before .before in
-    let prepare = c .before .before .before .before .before .before .before .before .before .before .before .before .before .before .before .before .before .before .before .before .before .before .before .before .before .before .before .before .before .before .before .before .before .before .before .before .prepare in
-    let ahead = c .before .before .before .before .before .before .before .before .before .before .before .before .before .before .before .before .before .before .before .before .before .before .before .before .before .before .before .before .before .before .before .before .before .before .before .before .before .before .before .before .before .before .before .before .ahead in
-    let run-search = c .before .before .before .before .before .before .before .before .before .before .before .before .before .before .run-search in
+    let start = c .before .before .before .before .before .before .before .before .before .before .before .before .before .before .before .before .before .before .before .before .before .before .before .before .before .before .before .before .before .before .before .before .before in
+    let prepare = c .before .before .before .before .before .before .before .before .before .before .before .before .before .before .before .before .before .before .before .before .before .prepare in
+    let ahead = c .before .before .before .before .before .before .before .before .before .before .before .before .before .before .before .before .before .before .before .before .before .before .before .before .before .before .ahead in
+    let run-search = c .before .before .before .before .before .before .before .before .run-search in
     let a = start .args in
     let t = sheet-of (a .s .now) (a .c) in
     let q = asked t (a .ask) in
@@ -72,7 +63,4 @@ search-from-start-spec =
     same-length-2
     same-length-3
     same-length-4
-    same-length-5
-    same-length-6
-    same-length-7
     returns)

@@ -12,10 +12,10 @@ use Rattle.legs.proofs.tries.try_pair.Statement.{statement}
 use Rattle.legs.proofs.tries.try_pair.Tie as tie
 
 road-requires : tie.Need-road-requires
-road-requires c κs = (c .before .before .before .before .before .before .before .before .before .before .pre .0 .0, c .before .before .before .before .before .before .before .before .before .before .pre .0 .2)
+road-requires c κs = (c .before .before .before .before .before .before .before .pre .0 .0, c .before .before .before .before .before .before .before .pre .0 .2)
 
 road-requires-2 : tie.Need-road-requires-2
-road-requires-2 c κs = (c .before .before .before .before .before .before .before .before .before .before .before .pre .0 .0, c .before .before .before .before .before .before .before .before .before .before .before .pre .0 .3)
+road-requires-2 c κs = (c .before .before .before .before .before .before .before .before .pre .0 .0, c .before .before .before .before .before .before .before .before .pre .0 .3)
 
 plan-requires : tie.Need-plan-requires
 plan-requires c κs = search needs
@@ -24,17 +24,17 @@ ask-requires : tie.Need-ask-requires
 ask-requires c κs = search needs
 
 middle-requires : tie.Need-middle-requires
-middle-requires c κs = let p = c .before .before .before .before .before .before .before .before .before .before .before .before .before .before .before .before .before .before .before .before .before .before .pre in
-    ((p .0 .0, p .0 .1, c .before .before .before .before .before .before .before .before .before .before .before .road .ensures .2, c .before .before .before .before .before .before .before .before .before .before .road2 .ensures .1), (p .1 .0, p .1 .1, p .1 .3))
+middle-requires c κs = let p = c .before .before .before .before .before .before .before .before .before .before .before .before .before .before .before .before .pre in
+    ((p .0 .0, p .0 .1, c .before .before .before .before .before .before .before .before .road .ensures .2, c .before .before .before .before .before .before .before .road2 .ensures .1), (p .1 .0, p .1 .1, p .1 .3))
 
 settle-requires : tie.Need-settle-requires
 settle-requires c κs = search needs
 
 keep-roads-requires : tie.Need-keep-roads-requires
-keep-roads-requires c κs = let p = c .before .before .before .before .before .before .before .before .before .before .before .before .before .before .before .before .before .before .before .before .before .before .before .before .before .before .before .before .before .before .before .before .before .before .before .before .before .before .before .before .before .before .pre in
-    let m = c .before .before .before .before .before .before .before .before .before .before .before .before .before .before .before .before .before .before .before .middle in
-    let r = spans-roads _ _ (m .result) _ (omega (arith, c .before .before .before .before .before .before .before .before .before .before .before .before .before .before .before .before .before .before .before .before .before .before .before .before .before .before .before .before .before .before .before .road .ensures .2)) (m .ensures .1) in
-    (omega (arith, c .before .before .settle .ensures .few, r .0, p .1 .2), omega (arith, c .before .before .settle .ensures .few, r .0, p .1 .1, m .kept .1 .1 .1 .1 .1 .1 .1 .1 .1 .1 .1 .0))
+keep-roads-requires c κs = let p = c .before .before .before .before .before .before .before .before .before .before .before .before .before .before .before .before .before .before .before .before .before .before .before .before .before .before .before .before .before .before .pre in
+    let m = c .before .before .before .before .before .before .before .before .before .before .before .before .before .middle in
+    let r = spans-roads _ _ (m .result) _ (omega (arith, c .before .before .before .before .before .before .before .before .before .before .before .before .before .before .before .before .before .before .before .before .before .before .road .ensures .2)) (m .ensures .1) in
+    (omega (arith, c .before .before .settle .ensures .few, r .0, p .1 .2), omega (arith, c .before .before .settle .ensures .few, r .0, p .1 .1, m .kept .1 .1 .1 .1 .1 .1 .1 .1 .1 .1 .0))
 
 same-length : tie.Need-same-length
 same-length c = search needs
@@ -54,27 +54,18 @@ same-length-5 c = search needs
 same-length-6 : tie.Need-same-length-6
 same-length-6 c = search needs
 
-same-length-7 : tie.Need-same-length-7
-same-length-7 c = search needs
-
-same-length-8 : tie.Need-same-length-8
-same-length-8 c = search needs
-
-same-length-9 : tie.Need-same-length-9
-same-length-9 c = search needs
-
 returns : tie.Need-returns
-returns c = let a = c .before .before .before .before .before .before .before .before .before .before .before .before .before .before .before .before .before .before .before .before .before .before .before .before .before .before .before .before .before .before .before .before .before .before .before .before .before .before .before .before .before .before .before .before .before .args in
-    let p = c .before .before .before .before .before .before .before .before .before .before .before .before .before .before .before .before .before .before .before .before .before .before .before .before .before .before .before .before .before .before .before .before .before .before .before .before .before .before .before .before .before .before .before .before .before .pre in
-    let m = c .before .before .before .before .before .before .before .before .before .before .before .before .before .before .before .before .before .before .before .before .before .before .middle in
+returns c = let a = c .before .before .before .before .before .before .before .before .before .before .before .before .before .before .before .before .before .before .before .before .before .before .before .before .before .before .before .before .before .before .before .before .before .args in
+    let p = c .before .before .before .before .before .before .before .before .before .before .before .before .before .before .before .before .before .before .before .before .before .before .before .before .before .before .before .before .before .before .before .before .before .pre in
+    let m = c .before .before .before .before .before .before .before .before .before .before .before .before .before .before .before .before .middle in
     let t = c .before .before .before .before .before .settle in
-    let new = m .last .1 .1 .1 .1 .1 .1 .1 .1 .1 .1 .1 .0 in
+    let new = m .last .1 .1 .1 .1 .1 .1 .1 .1 .1 .1 .0 in
     let old = a .best-route .now in
     let sh = sheet-of (a .s .now) (a .c) in
-    let r = spans-roads _ _ (m .result) _ (omega (arith, c .before .before .before .before .before .before .before .before .before .before .before .before .before .before .before .before .before .before .before .before .before .before .before .before .before .before .before .before .before .before .before .before .before .before .road .ensures .2)) (m .ensures .1) in
-    let fit : count-of (m .result) ≤ length new = omega (arith, r .0, p .1 .1, m .kept .1 .1 .1 .1 .1 .1 .1 .1 .1 .1 .1 .0) in
+    let r = spans-roads _ _ (m .result) _ (omega (arith, c .before .before .before .before .before .before .before .before .before .before .before .before .before .before .before .before .before .before .before .before .before .before .before .before .before .road .ensures .2)) (m .ensures .1) in
+    let fit : count-of (m .result) ≤ length new = omega (arith, r .0, p .1 .1, m .kept .1 .1 .1 .1 .1 .1 .1 .1 .1 .1 .0) in
     rw (c .before .before .keep-roads .ensures) (
-      rw (c .before .before .before .before .before .before .before .before .before .before .before .before .before .before .before .before .before .before .before .before .before .before .before .before .before .before .before .before .before .before .before .before .before .before .road .ensures .0, c .before .before .before .before .before .before .before .before .before .before .before .before .before .before .before .before .before .before .before .before .before .before .before .before .before .before .before .before .before .before .before .before .before .road2 .ensures .0) at (one-pair (a .b) (pair-as (a .start) (c .before .before .before .before .before .before .before .before .before .before .before .before .before .before .before .before .before .before .before .before .before .before .before .before .before .before .before .before .before .before .before .before .before .before .road .result) (a .end) (c .before .before .before .before .before .before .before .before .before .before .before .before .before .before .before .before .before .before .before .before .before .before .before .before .before .before .before .before .before .before .before .before .before .road2 .result)) (a .best) (c .before .before .before .before .before .before .before .before .before .before .before .before .before .before .before .before .before .before .before .before .before .before .before .before .before .before .before .before .before .before .before .before .plan .result) (c .before .before .before .before .before .before .before .before .before .before .before .before .before .before .before .before .before .before .before .before .before .before .before .before .before .before .before .before .before .before .before .ask .result) (m .result) (t .result) (c .before .before .before .before .before .before .before .before .before .before .before .before .before .before .before .before .before .before .before .before .before .before .before .before .before .before .before .before .before .before .before .before .plan .ensures) (c .before .before .before .before .before .before .before .before .before .before .before .before .before .before .before .before .before .before .before .before .before .before .before .before .before .before .before .before .before .before .before .ask .ensures) (t .ensures) (road-at sh) (seek-at sh (a .slots) (a .b)) old new fit (m .ensures .0)),
+      rw (c .before .before .before .before .before .before .before .before .before .before .before .before .before .before .before .before .before .before .before .before .before .before .before .before .before .road .ensures .0, c .before .before .before .before .before .before .before .before .before .before .before .before .before .before .before .before .before .before .before .before .before .before .before .before .road2 .ensures .0) at (one-pair (a .b) (pair-as (a .start) (c .before .before .before .before .before .before .before .before .before .before .before .before .before .before .before .before .before .before .before .before .before .before .before .before .before .road .result) (a .end) (c .before .before .before .before .before .before .before .before .before .before .before .before .before .before .before .before .before .before .before .before .before .before .before .before .road2 .result)) (a .best) (c .before .before .before .before .before .before .before .before .before .before .before .before .before .before .before .before .before .before .before .before .before .before .before .plan .result) (c .before .before .before .before .before .before .before .before .before .before .before .before .before .before .before .before .before .before .before .before .before .before .ask .result) (m .result) (t .result) (c .before .before .before .before .before .before .before .before .before .before .before .before .before .before .before .before .before .before .before .before .before .before .before .plan .ensures) (c .before .before .before .before .before .before .before .before .before .before .before .before .before .before .before .before .before .before .before .before .before .before .ask .ensures) (t .ensures) (road-at sh) (seek-at sh (a .slots) (a .b)) old new fit (m .ensures .0)),
       fits-on (a .c .n) (a .c .e) (a .best) (t .result) (count-of (m .result)) new old (t .ensures .few) fit r (p .0 .4) (t .ensures .middle),
     )
 
@@ -95,7 +86,4 @@ try-pair-spec =
     same-length-4
     same-length-5
     same-length-6
-    same-length-7
-    same-length-8
-    same-length-9
     returns)

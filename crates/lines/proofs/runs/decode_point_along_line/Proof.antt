@@ -10,16 +10,16 @@ begin-requires : tie.Need-begin-requires
 begin-requires c κs = search needs
 
 find-candidates-requires : tie.Need-find-candidates-requires
-find-candidates-requires c κs = (c .before .before .before .before .before .before .before .before .before .before .before .before .before .before .pre .0 .0, omega (arith, c .before .before .before .before .before .before .before .before .before .before .before .before .before .before .pre .0 .3), c .before .before .before .before .before .before .before .before .before .before .before .before .before .before .pre .0 .1)
+find-candidates-requires c κs = (c .before .before .before .before .before .before .before .before .before .before .before .pre .0 .0, omega (arith, c .before .before .before .before .before .before .before .before .before .before .before .pre .0 .3), c .before .before .before .before .before .before .before .before .before .before .before .pre .0 .1)
 
 find-candidates-requires-2 : tie.Need-find-candidates-requires-2
-find-candidates-requires-2 c κs = (c .before .before .before .before .before .before .before .before .before .before .before .before .before .before .before .pre .0 .0, omega (arith, c .before .before .before .before .before .before .before .before .before .before .before .before .before .before .before .pre .0 .3), c .before .before .before .before .before .before .before .before .before .before .before .before .before .before .before .pre .0 .1)
+find-candidates-requires-2 c κs = (c .before .before .before .before .before .before .before .before .before .before .before .before .pre .0 .0, omega (arith, c .before .before .before .before .before .before .before .before .before .before .before .before .pre .0 .3), c .before .before .before .before .before .before .before .before .before .before .before .before .pre .0 .1)
 
 walk-leg-requires : tie.Need-walk-leg-requires
-walk-leg-requires c κs = let a = c .before .before .before .before .before .before .before .before .before .before .before .before .before .before .before .before .before .before .before .before .before .before .before .before .before .before .before .before .args in
-    let p = c .before .before .before .before .before .before .before .before .before .before .before .before .before .before .before .before .before .before .before .before .before .before .before .before .before .before .before .before .pre in
+walk-leg-requires c κs = let a = c .before .before .before .before .before .before .before .before .before .before .before .before .before .before .before .before .before .before .before .before .before .before .args in
+    let p = c .before .before .before .before .before .before .before .before .before .before .before .before .before .before .before .before .before .before .before .before .before .before .pre in
     let r = room-first (a .s .now) (a .c) (a .slots) in
-    ((p .0 .0, p .0 .1, p .0 .2, omega (arith, p .0 .3), λ j h. absurd (omega arith), c .before .before .before .before .before .before .before .before .before .before .before .before .before .find-candidates .ensures, c .before .before .before .before .before .before .before .before .before .before .before .before .find-candidates2 .ensures), ((omega (arith, r, p .1 .0 .0), omega (arith, r, p .1 .0 .1), omega (arith, r, p .1 .0 .2)), p .1 .1))
+    ((p .0 .0, p .0 .1, p .0 .2, omega (arith, p .0 .3), λ j h. absurd (omega arith), c .before .before .before .before .before .before .before .before .before .before .find-candidates .ensures, c .before .before .before .before .before .before .before .before .before .find-candidates2 .ensures), ((omega (arith, r, p .1 .0 .0), omega (arith, r, p .1 .0 .1), omega (arith, r, p .1 .0 .2)), p .1 .1))
 
 alone-requires : tie.Need-alone-requires
 alone-requires c κs = search needs
@@ -51,20 +51,11 @@ same-length-8 c = search needs
 same-length-9 : tie.Need-same-length-9
 same-length-9 c = search needs
 
-same-length-10 : tie.Need-same-length-10
-same-length-10 c = search needs
-
-same-length-11 : tie.Need-same-length-11
-same-length-11 c = search needs
-
-same-length-12 : tie.Need-same-length-12
-same-length-12 c = search needs
-
 returns : tie.Need-returns
 unfolding last-of coverages-at tab
-returns c = let a = c .before .before .before .before .before .before .before .before .before .before .before .before .before .before .before .before .before .before .before .before .before .before .before .before .before .before .before .before .before .before .before .before .before .before .before .before .before .before .before .before .before .before .before .before .before .before .before .before .before .before .before .before .before .before .args in
-    let p = c .before .before .before .before .before .before .before .before .before .before .before .before .before .before .before .before .before .before .before .before .before .before .before .before .before .before .before .before .before .before .before .before .before .before .before .before .before .before .before .before .before .before .before .before .before .before .before .before .before .before .before .before .before .before .pre in
-    rw (c .alone .ensures, c .before .before .before .before .before .before .before .before .before .before .before .before .before .before .before .before .before .before .before .before .before .before .before .before .before .before .before .before .before .before .before .before .before .before .before .before .before .before .before .before .begin .ensures) (alone-ends (a .s .now) (a .c) (a .slots) (p .0 .3) _ _ _ (c .before .before .before .before .before .before .before .before .before .before .before .before .before .before .before .before .before .before .before .before .before .before .before .before .before .walk-leg .result) (c .before .before .before .before .before .before .before .before .before .before .before .before .before .before .before .before .before .before .before .before .before .before .before .before .before .walk-leg .ensures))
+returns c = let a = c .before .before .before .before .before .before .before .before .before .before .before .before .before .before .before .before .before .before .before .before .before .before .before .before .before .before .before .before .before .before .before .before .before .before .before .before .before .before .before .before .before .before .args in
+    let p = c .before .before .before .before .before .before .before .before .before .before .before .before .before .before .before .before .before .before .before .before .before .before .before .before .before .before .before .before .before .before .before .before .before .before .before .before .before .before .before .before .before .before .pre in
+    rw (c .alone .ensures, c .before .before .before .before .before .before .before .before .before .before .before .before .before .before .before .before .before .before .before .before .before .before .before .before .before .before .before .before .before .before .before .begin .ensures) (alone-ends (a .s .now) (a .c) (a .slots) (p .0 .3) _ _ _ (c .before .before .before .before .before .before .before .before .before .before .before .before .before .before .before .before .before .before .before .walk-leg .result) (c .before .before .before .before .before .before .before .before .before .before .before .before .before .before .before .before .before .before .before .walk-leg .ensures))
 
 pub decode-point-along-line-spec : {M : Type 1} → statement M
 decode-point-along-line-spec =
@@ -84,7 +75,4 @@ decode-point-along-line-spec =
     same-length-7
     same-length-8
     same-length-9
-    same-length-10
-    same-length-11
-    same-length-12
     returns)

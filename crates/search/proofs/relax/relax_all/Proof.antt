@@ -10,39 +10,40 @@ use Rattle.search.specs.Ask.{asked}
 use Rattle.search.specs.Areas.{entry-from, columns, state-of}
 use Rattle.search.proofs.Roads.{road-known, ways-of}
 use Rattle.search.proofs.Growth.{kept-same}
+use Rattle.search.proofs.Halves.{both-size}
 use Rattle.search.proofs.Relaxing.{Rest, rest-start, rest-end, rest-skip, rest-done, rest-full}
 use Rattle.search.proofs.relax.relax_all.Statement.{statement}
 use Rattle.search.proofs.relax.relax_all.Tie as tie
 
 abbrev Inv-loop : tie.InvT-loop
-Inv-loop s c ask row slots real₀ penalised₀ came-from₀ key₀ cost₀ node₀ order₀ first-len first-made u g len₀ made₀ i₀ end real penalised came-from key cost node order len made i =
+Inv-loop s c ask row slots labels₀ came-from₀ entries₀ links₀ first-len first-made u g len₀ made₀ i₀ end labels came-from entries links len made i =
     (end ≤ c .e) × Rest (c .n) (c .e) slots (asked (sheet-of s c) ask) (entry-from u g) (road-at (sheet-of s c)) (ask .class) (entry-of s c) end
-    (relax-all slots (asked (sheet-of s c) ask) (entry-from u g) (asked (sheet-of s c) ask .leaving u) (state-of (road-at (sheet-of s c)) (c .n) (columns real₀ penalised₀ came-from₀ key₀ cost₀ node₀ order₀ first-len first-made)))
-    (columns real₀ penalised₀ came-from₀ key₀ cost₀ node₀ order₀ first-len first-made)
-    (columns real penalised came-from key cost node order len made) i
+    (relax-all slots (asked (sheet-of s c) ask) (entry-from u g) (asked (sheet-of s c) ask .leaving u) (state-of (road-at (sheet-of s c)) (c .n) (columns (c .n) slots labels₀ came-from₀ entries₀ links₀ first-len first-made)))
+    (columns (c .n) slots labels₀ came-from₀ entries₀ links₀ first-len first-made)
+    (columns (c .n) slots labels came-from entries links len made) i
 
 abbrev μ-loop : tie.MeasureT-loop
-μ-loop s c ask row slots real₀ penalised₀ came-from₀ key₀ cost₀ node₀ order₀ first-len first-made u g len₀ made₀ i₀ end real penalised came-from key cost node order len made i =
+μ-loop s c ask row slots labels₀ came-from₀ entries₀ links₀ first-len first-made u g len₀ made₀ i₀ end labels came-from entries links len made i =
     end - i
 
 start-requires : tie.Need-start-requires Inv-loop μ-loop
 start-requires c κs =
-    let start = c .before .before .before .before .before .before .before .before in
+    let start = c .before .before .before .before .before in
     (start .pre .0 .0 .formed, omega (arith, start .pre .1 .0))
 
 add-start : tie.Need-add-start Inv-loop μ-loop
 add-start c =
-    let start = c .before .before .before .before .before .before .before .before .before in
+    let start = c .before .before .before .before .before .before in
     omega (arith, start .pre .1 .0, start .pre .0 .0 .formed .sound .small .n)
 
 start-requires-2 : tie.Need-start-requires-2 Inv-loop μ-loop
 start-requires-2 c κs =
-    let start = c .before .before .before .before .before .before .before .before .before in
+    let start = c .before .before .before .before .before .before in
     (start .pre .0 .0 .formed, omega (arith, start .pre .1 .0))
 
 loop-holds : tie.Need-loop-holds Inv-loop μ-loop
 loop-holds c =
-    let start = c .before .before .before .before .before .before .before .before .before .before in
+    let start = c .before .before .before .before .before .before .before in
     let start2 = c .start2 in
     let p = start .pre in
     let w = p .0 .0 .formed in
@@ -50,17 +51,17 @@ loop-holds c =
 
 entry-requires : tie.Need-entry-requires Inv-loop μ-loop
 entry-requires c κs =
-    let start = c .before .before .before .before .before .before .before .before .before .before .before .before in
+    let start = c .before .before .before .before .before .before .before .before .before in
     (start .pre .0 .0 .formed, omega (arith, c .loop-test .taken, c .before .loop .inv .0))
 
 road-requires : tie.Need-road-requires Inv-loop μ-loop
 road-requires c κs =
-    let start = c .before .before .before .before .before .before .before .before .before .before .before .before .before in
+    let start = c .before .before .before .before .before .before .before .before .before .before in
     (start .pre .0 .0 .formed, c .entry .ensures .1)
 
 add-i : tie.Need-add-i Inv-loop μ-loop
 add-i c =
-    let start = c .before .before .before .before .before .before .before .before .before .before .before .before .before .before in
+    let start = c .before .before .before .before .before .before .before .before .before .before .before in
     omega (arith, c .before .before .loop-test .taken, c .before .before .before .loop .inv .0, start .pre .0 .0 .formed .sound .small .e)
 
 permits-requires : tie.Need-permits-requires Inv-loop μ-loop
@@ -68,10 +69,10 @@ permits-requires c κs = search needs
 
 relax-requires : tie.Need-relax-requires Inv-loop μ-loop
 relax-requires c κs =
-    let start = c .before .before .before .before .before .before .before .before .before .before .before .before .before .before .before .before .before .before .before .before .before .before .before in
-    let entry = c .before .before .before .before .before .before .before .before .before .before .entry in
-    let road = c .before .before .before .before .before .before .before .before .before .road in
-    let loop = c .before .before .before .before .before .before .before .before .before .before .before .before .loop in
+    let start = c .before .before .before .before .before .before .before .before .before .before .before .before .before .before .before .before .before in
+    let entry = c .before .before .before .before .before .before .before .entry in
+    let road = c .before .before .before .before .before .before .road in
+    let loop = c .before .before .before .before .before .before .before .before .before .loop in
     let p = start .pre in
     let known = road-known _ _ (p .0 .0 .formed) (entry .ensures .1) (road .ensures .0) in
     ((p .0 .0, loop .inv .1 .kept .proper), (p .1 .0, loop .inv .1 .kept .reached _ (p .1 .1), road .ensures .2, known .0, known .1))
@@ -84,75 +85,58 @@ enum-told c = search needs
 
 same-length : tie.Need-same-length Inv-loop μ-loop
 same-length c =
-    let relax = c .before .before .before .before .before .before .before .before .before .before .before .before .before .before .before .before .relax in
-    let loop = c .before .before .before .before .before .before .before .before .before .before .before .before .before .before .before .before .before .before .before .before .before .before .before .before .before .before .before .before .before .loop in
-    relax .kept .1 .1 .1 .1 .1 .0 ∙ loop .inv .1 .kept .sizes .real
+    let relax = c .before .before .before .before .before .before .before .before .before .before .relax in
+    let loop = c .before .before .before .before .before .before .before .before .before .before .before .before .before .before .before .before .before .before .before .before .loop in
+    relax .kept .1 .1 .1 .1 .1 .0 ∙ both-size (c .before .before .before .before .before .before .before .before .before .before .before .before .before .before .before .before .before .before .before .before .before .before .before .before .before .before .before .before .args .c .n) (c .before .before .before .before .before .before .before .before .before .before .before .before .before .before .before .before .before .before .before .before .before .before .before .before .before .before .before .before .args .labels .now) (loop .labels) (loop .inv .1 .kept .sizes .real) (loop .inv .1 .kept .sizes .penalised)
 
 same-length-2 : tie.Need-same-length-2 Inv-loop μ-loop
 same-length-2 c =
-    let relax = c .before .before .before .before .before .before .before .before .before .before .before .before .before .before .before .before .relax in
-    let loop = c .before .before .before .before .before .before .before .before .before .before .before .before .before .before .before .before .before .before .before .before .before .before .before .before .before .before .before .before .before .loop in
-    relax .kept .1 .1 .1 .1 .1 .1 .0 ∙ loop .inv .1 .kept .sizes .penalised
+    let relax = c .before .before .before .before .before .before .before .before .before .before .relax in
+    let loop = c .before .before .before .before .before .before .before .before .before .before .before .before .before .before .before .before .before .before .before .before .loop in
+    relax .kept .1 .1 .1 .1 .1 .1 .0 ∙ loop .inv .1 .kept .sizes .came
 
 same-length-3 : tie.Need-same-length-3 Inv-loop μ-loop
 same-length-3 c =
-    let relax = c .before .before .before .before .before .before .before .before .before .before .before .before .before .before .before .before .relax in
-    let loop = c .before .before .before .before .before .before .before .before .before .before .before .before .before .before .before .before .before .before .before .before .before .before .before .before .before .before .before .before .before .loop in
-    relax .kept .1 .1 .1 .1 .1 .1 .1 .0 ∙ loop .inv .1 .kept .sizes .came
+    let relax = c .before .before .before .before .before .before .before .before .before .before .relax in
+    let loop = c .before .before .before .before .before .before .before .before .before .before .before .before .before .before .before .before .before .before .before .before .loop in
+    relax .kept .1 .1 .1 .1 .1 .1 .1 .0 ∙ both-size (c .before .before .before .before .before .before .before .before .before .before .before .before .before .before .before .before .before .before .before .before .before .before .before .before .before .before .before .before .args .slots) (c .before .before .before .before .before .before .before .before .before .before .before .before .before .before .before .before .before .before .before .before .before .before .before .before .before .before .before .before .args .entries .now) (loop .entries) (loop .inv .1 .kept .sizes .key) (loop .inv .1 .kept .sizes .cost)
 
 same-length-4 : tie.Need-same-length-4 Inv-loop μ-loop
 same-length-4 c =
-    let relax = c .before .before .before .before .before .before .before .before .before .before .before .before .before .before .before .before .relax in
-    let loop = c .before .before .before .before .before .before .before .before .before .before .before .before .before .before .before .before .before .before .before .before .before .before .before .before .before .before .before .before .before .loop in
-    relax .kept .1 .1 .1 .1 .1 .1 .1 .1 .0 ∙ loop .inv .1 .kept .sizes .key
-
-same-length-5 : tie.Need-same-length-5 Inv-loop μ-loop
-same-length-5 c =
-    let relax = c .before .before .before .before .before .before .before .before .before .before .before .before .before .before .before .before .relax in
-    let loop = c .before .before .before .before .before .before .before .before .before .before .before .before .before .before .before .before .before .before .before .before .before .before .before .before .before .before .before .before .before .loop in
-    relax .kept .1 .1 .1 .1 .1 .1 .1 .1 .1 .0 ∙ loop .inv .1 .kept .sizes .cost
-
-same-length-6 : tie.Need-same-length-6 Inv-loop μ-loop
-same-length-6 c =
-    let relax = c .before .before .before .before .before .before .before .before .before .before .before .before .before .before .before .before .relax in
-    let loop = c .before .before .before .before .before .before .before .before .before .before .before .before .before .before .before .before .before .before .before .before .before .before .before .before .before .before .before .before .before .loop in
-    relax .kept .1 .1 .1 .1 .1 .1 .1 .1 .1 .1 .0 ∙ loop .inv .1 .kept .sizes .node
-
-same-length-7 : tie.Need-same-length-7 Inv-loop μ-loop
-same-length-7 c =
-    let relax = c .before .before .before .before .before .before .before .before .before .before .before .before .before .before .before .before .relax in
-    let loop = c .before .before .before .before .before .before .before .before .before .before .before .before .before .before .before .before .before .before .before .before .before .before .before .before .before .before .before .before .before .loop in
-    relax .kept .1 .1 .1 .1 .1 .1 .1 .1 .1 .1 .1 .0 ∙ loop .inv .1 .kept .sizes .order
+    let start = c .before .before .before .before .before .before .before .before .before .before .before .before .before .before .before .before .before .before .before .before .before .before .before .before .before .before .before .before in
+    let relax = c .before .before .before .before .before .before .before .before .before .before .relax in
+    let loop = c .before .before .before .before .before .before .before .before .before .before .before .before .before .before .before .before .before .before .before .before .loop in
+    relax .kept .1 .1 .1 .1 .1 .1 .1 .1 .0 ∙ both-size (c .before .before .before .before .before .before .before .before .before .before .before .before .before .before .before .before .before .before .before .before .before .before .before .before .before .before .before .before .args .slots) (c .before .before .before .before .before .before .before .before .before .before .before .before .before .before .before .before .before .before .before .before .before .before .before .before .before .before .before .before .args .links .now) (loop .links) (loop .inv .1 .kept .sizes .order) (loop .inv .1 .kept .sizes .node)
 
 returns : tie.Need-returns Inv-loop μ-loop
 returns c =
-    let start = c .before .before .before .before .before .before .before .before .before .before .before .before .before .before .before .before .before .before .before .before .before .before .before .before .before .before .before .before .before .before .before .before .before .before .before .before .before .before .before .before in
-    let road = c .before .before .before .before .before .before .before .before .before .before .before .before .before .before .before .before .before .before .before .before .before .before .before .before .before .before .road in
-    let entry = c .before .before .before .before .before .before .before .before .before .before .before .before .before .before .before .before .before .before .before .before .before .before .before .before .before .before .before .entry in
-    let loop = c .before .before .before .before .before .before .before .before .before .before .before .before .before .before .before .before .before .before .before .before .before .before .before .before .before .before .before .before .before .loop in
-    let loop-test = c .before .before .before .before .before .before .before .before .before .before .before .before .before .before .before .before .before .before .before .before .before .before .before .before .before .before .before .before .loop-test in
-    let permits = c .before .before .before .before .before .before .before .before .before .before .before .before .before .before .before .before .before .before .before .before .before .before .before .before .before .permits in
-    let if1 = c .before .before .before .before .before .before .before .before .before .before .before .before .before .before .before .before .before .before .before .before .before .before .before .before .if1 in
-    let relax = c .before .before .before .before .before .before .before .before .before .before .before .before .before .before .before .before .relax in
+    let start = c .before .before .before .before .before .before .before .before .before .before .before .before .before .before .before .before .before .before .before .before .before .before .before .before .before .before .before .before in
+    let road = c .before .before .before .before .before .before .before .before .before .before .before .before .before .before .before .before .before .road in
+    let entry = c .before .before .before .before .before .before .before .before .before .before .before .before .before .before .before .before .before .before .entry in
+    let loop = c .before .before .before .before .before .before .before .before .before .before .before .before .before .before .before .before .before .before .before .before .loop in
+    let loop-test = c .before .before .before .before .before .before .before .before .before .before .before .before .before .before .before .before .before .before .before .loop-test in
+    let permits = c .before .before .before .before .before .before .before .before .before .before .before .before .before .before .before .before .permits in
+    let if1 = c .before .before .before .before .before .before .before .before .before .before .before .before .before .before .before .if1 in
+    let relax = c .before .before .before .before .before .before .before .before .before .before .relax in
     let a = start .args in
     let place = road .ensures .0 ∙ ap (road-at (sheet-of (a .s .now) (a .c))) (entry .ensures .0) in
     (tt, rest-full (loop .inv .1) (loop-test .taken) place (sym (permits .ensures) ∙ if1 .taken) _ _ (relax .ensures .0) (relax .ensures .1) (c .enum-told .given .1))
 
 loop-less : tie.Need-loop-less Inv-loop μ-loop
 loop-less c =
-    let loop-test = c .before .before .before .before .before .before .before .before .before .before .before .before .before .before .before .before .before .before .before .before .before .before .before .before .before .before .before .before .before .loop-test in
+    let loop-test = c .before .before .before .before .before .before .before .before .before .before .before .before .before .before .before .before .before .before .before .before .loop-test in
     omega (arith, loop-test .taken)
 
 loop-again : tie.Need-loop-again Inv-loop μ-loop
 loop-again c =
-    let start = c .before .before .before .before .before .before .before .before .before .before .before .before .before .before .before .before .before .before .before .before .before .before .before .before .before .before .before .before .before .before .before .before .before .before .before .before .before .before .before .before .before in
-    let road = c .before .before .before .before .before .before .before .before .before .before .before .before .before .before .before .before .before .before .before .before .before .before .before .before .before .before .before .road in
-    let entry = c .before .before .before .before .before .before .before .before .before .before .before .before .before .before .before .before .before .before .before .before .before .before .before .before .before .before .before .before .entry in
-    let loop = c .before .before .before .before .before .before .before .before .before .before .before .before .before .before .before .before .before .before .before .before .before .before .before .before .before .before .before .before .before .before .loop in
-    let loop-test = c .before .before .before .before .before .before .before .before .before .before .before .before .before .before .before .before .before .before .before .before .before .before .before .before .before .before .before .before .before .loop-test in
-    let permits = c .before .before .before .before .before .before .before .before .before .before .before .before .before .before .before .before .before .before .before .before .before .before .before .before .before .before .permits in
-    let if1 = c .before .before .before .before .before .before .before .before .before .before .before .before .before .before .before .before .before .before .before .before .before .before .before .before .before .if1 in
-    let relax = c .before .before .before .before .before .before .before .before .before .before .before .before .before .before .before .before .before .relax in
+    let start = c .before .before .before .before .before .before .before .before .before .before .before .before .before .before .before .before .before .before .before .before .before .before .before .before .before .before .before .before .before in
+    let road = c .before .before .before .before .before .before .before .before .before .before .before .before .before .before .before .before .before .before .road in
+    let entry = c .before .before .before .before .before .before .before .before .before .before .before .before .before .before .before .before .before .before .before .entry in
+    let loop = c .before .before .before .before .before .before .before .before .before .before .before .before .before .before .before .before .before .before .before .before .before .loop in
+    let loop-test = c .before .before .before .before .before .before .before .before .before .before .before .before .before .before .before .before .before .before .before .before .loop-test in
+    let permits = c .before .before .before .before .before .before .before .before .before .before .before .before .before .before .before .before .before .permits in
+    let if1 = c .before .before .before .before .before .before .before .before .before .before .before .before .before .before .before .before .if1 in
+    let relax = c .before .before .before .before .before .before .before .before .before .before .before .relax in
     let a = start .args in
     let place = road .ensures .0 ∙ ap (road-at (sheet-of (a .s .now) (a .c))) (entry .ensures .0) in
     (loop .inv .0, rest-done (loop .inv .1) (loop-test .taken) place (sym (permits .ensures) ∙ if1 .taken) _ _ (relax .ensures .0) (relax .ensures .1) (c .before .x .given .1))
@@ -164,33 +148,24 @@ loop-less-2 c =
 
 loop-again-2 : tie.Need-loop-again-2 Inv-loop μ-loop
 loop-again-2 c =
-    let start = c .before .before .before .before .before .before .before .before .before .before .before .before .before .before .before .before in
+    let start = c .before .before .before .before .before .before .before .before .before .before .before .before .before in
     let loop = c .before .before .before .before .before .loop in
     let loop-test = c .before .before .before .before .loop-test in
     let a = start .args in
     let place = c .before .before .road .ensures .0 ∙ ap (road-at (sheet-of (a .s .now) (a .c))) (c .before .before .before .entry .ensures .0) in
     (loop .inv .0, rest-skip (loop .inv .1) (loop-test .taken) place (sym (c .before .permits .ensures) ∙ c .if1 .left))
 
+same-length-5 : tie.Need-same-length-5 Inv-loop μ-loop
+same-length-5 c = both-size (c .before .before .before .before .before .before .before .before .before .args .c .n) (c .before .before .before .before .before .before .before .before .before .args .labels .now) (c .before .loop .labels) (c .before .loop .inv .1 .kept .sizes .real) (c .before .loop .inv .1 .kept .sizes .penalised)
+
+same-length-6 : tie.Need-same-length-6 Inv-loop μ-loop
+same-length-6 c = c .before .loop .inv .1 .kept .sizes .came
+
+same-length-7 : tie.Need-same-length-7 Inv-loop μ-loop
+same-length-7 c = both-size (c .before .before .before .before .before .before .before .before .before .args .slots) (c .before .before .before .before .before .before .before .before .before .args .entries .now) (c .before .loop .entries) (c .before .loop .inv .1 .kept .sizes .key) (c .before .loop .inv .1 .kept .sizes .cost)
+
 same-length-8 : tie.Need-same-length-8 Inv-loop μ-loop
-same-length-8 c = c .before .loop .inv .1 .kept .sizes .real
-
-same-length-9 : tie.Need-same-length-9 Inv-loop μ-loop
-same-length-9 c = c .before .loop .inv .1 .kept .sizes .penalised
-
-same-length-10 : tie.Need-same-length-10 Inv-loop μ-loop
-same-length-10 c = c .before .loop .inv .1 .kept .sizes .came
-
-same-length-11 : tie.Need-same-length-11 Inv-loop μ-loop
-same-length-11 c = c .before .loop .inv .1 .kept .sizes .key
-
-same-length-12 : tie.Need-same-length-12 Inv-loop μ-loop
-same-length-12 c = c .before .loop .inv .1 .kept .sizes .cost
-
-same-length-13 : tie.Need-same-length-13 Inv-loop μ-loop
-same-length-13 c = c .before .loop .inv .1 .kept .sizes .node
-
-same-length-14 : tie.Need-same-length-14 Inv-loop μ-loop
-same-length-14 c = c .before .loop .inv .1 .kept .sizes .order
+same-length-8 c = both-size (c .before .before .before .before .before .before .before .before .before .args .slots) (c .before .before .before .before .before .before .before .before .before .args .links .now) (c .before .loop .links) (c .before .loop .inv .1 .kept .sizes .order) (c .before .loop .inv .1 .kept .sizes .node)
 
 returns-2 : tie.Need-returns-2 Inv-loop μ-loop
 returns-2 c =
@@ -218,19 +193,13 @@ relax-all-spec =
     same-length-2
     same-length-3
     same-length-4
-    same-length-5
-    same-length-6
-    same-length-7
     returns
     loop-less
     loop-again
     loop-less-2
     loop-again-2
+    same-length-5
+    same-length-6
+    same-length-7
     same-length-8
-    same-length-9
-    same-length-10
-    same-length-11
-    same-length-12
-    same-length-13
-    same-length-14
     returns-2)

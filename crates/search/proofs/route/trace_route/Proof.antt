@@ -3,8 +3,9 @@ use mathlib.Core.Path.{sym, ap, _∙_}
 use mathlib.Core.List.{map}
 use borrow.Author.Needs.{needs}
 use native.Mathlib.Omega.{arith}
-use lib.ListN.{length}
-use lib.Seq.{length-take-le}
+use lib.ListN.{length, take, drop}
+use lib.Seq.{length-take-le, getD-take}
+use lib.Ieee.{nan}
 use Rattle.model.specs.Sheet.{sheet-of, road-at}
 use Rattle.search.specs.Ask.{asked}
 use Rattle.search.proofs.Walks.{front-turned, numbers-turned, arrived-back, found-there}
@@ -45,10 +46,10 @@ shared-slice-read-x : tie.Need-shared-slice-read-x
 shared-slice-read-x c = search needs
 
 returns : tie.Need-returns
-returns c = (λ penalised. rw (c .enum-told .given .1), tt)
+returns c = (rw (c .enum-told .given .1), tt)
 
 returns-2 : tie.Need-returns-2
-returns-2 c = (λ penalised. rw (c .enum-told2 .given .1), tt)
+returns-2 c = (rw (c .enum-told2 .given .1), tt)
 
 same-length : tie.Need-same-length
 same-length c = search needs
@@ -65,10 +66,10 @@ returns-3 c =
     let route = walk-back .last .1 .1 .1 .0 in
     let long : walk-back .result ≤ length route = omega (arith, walk-back .ensures .0, walk-back .kept .1 .1 .1 .0, p .2) in
     let turned = c .before .before .before .reverse .ensures in (
-      λ penalised. rw (enum-told3 .given .1)
-          (found-there roads _ (a .real .now) penalised _ _ (p .1) (arrived-back (enum-told3 .given .1) (p .4) .reached)
+      rw (enum-told3 .given .1)
+          (found-there roads _ (take (a .c .n) (a .labels .now)) (drop (a .c .n) (a .labels .now)) _ _ (p .1) (arrived-back (enum-told3 .given .1) (p .4) .reached)
           (ap (map roads) (front-turned route _ (walk-back .result) long turned)
-          ∙ walk-back .ensures .2 (a .real .now) penalised)),
+          ∙ walk-back .ensures .2 (a .labels .now)) (getD-take (a .c .n) (a .labels .now) _ nan (p .1))),
       (omega (arith, walk-back .ensures .0, p .1), numbers-turned route _ (walk-back .result) long turned (walk-back .ensures .1)),
     )
 

@@ -1,5 +1,6 @@
 use Prim.Native.Nat.{_-_}
 use native.Mathlib.Omega.{arith}
+use lib.ListN.{take, drop}
 use Rattle.model.specs.Sheet.{sheet-of, road-at}
 use Rattle.search.proofs.Roads.{roads-few, source-within}
 use Rattle.search.proofs.Walks.{Walking, walk-start, walk-room, walk-step, walk-end}
@@ -88,7 +89,7 @@ returns c =
     let start = c .before .before .before .before .before .before .before in
     let loop = c .before .before .loop in
     let p = start .pre in
-    (loop .inv .to, loop .inv .numbers, walk-end _ _ _ _ (roads-few _ _ (p .0)) (p .3 .marks) (source-within _ _ (p .0)) (loop .inv) (c .if1 .left))
+    (loop .inv .to, loop .inv .numbers, λ labels. walk-end _ _ _ _ (roads-few _ _ (p .0)) (p .3 .marks) (source-within _ _ (p .0)) (loop .inv) (c .if1 .left) (take (start .args .c .n) labels) (drop (start .args .c .n) labels))
 
 pub walk-back-spec : {M : Type 1} → statement M
 walk-back-spec =
