@@ -80,9 +80,9 @@ leads-in q u v (x ∷ xs) l r m = elim (List·Memᴰ·cases-cons m) [
   | inr k ↦ leads-in q (x .target) v xs (l .2) r k
 ]
 
--- a heap without slots finds nothing
-no-slots : (q : Query) (start : ℕ) → bounded-astar 0 q start ≡ none-found
-unfolding bounded-astar search-within run
+-- a heap without slots is full
+no-slots : (q : Query) (start : ℕ) → bounded-astar 0 q start ≡ full
+unfolding bounded-astar
 no-slots q start = refl
 
 module _ (t : Sheet) (wf : Formed t) (R : Road → Type 0) (law : RoadLaw t R) where

@@ -16,7 +16,7 @@ use Rattle.model.specs.Bytes.{u64-at, f64-at}
 use Rattle.model.specs.Layout.{counts-of, road-bytes, points-bytes, rows-bytes}
 use Rattle.model.specs.Table.{most-f64}
 use Rattle.model.specs.Judge.{judged, source-of, start-of, entry-of, row-count, rows-before, WellFormed}
-use Rattle.model.specs.Sheet.{Stop, settings-of, row-of, stop-of, road-of, part, sheet-of, road-at, list-at}
+use Rattle.model.specs.Sheet.{Stop, settings-of, row-of, stop-of, road-of, part, sheet-of, road-at, list-at, parsed}
 use Rattle.model.proofs.Members.{in-tab}
 use Rattle.model.proofs.Judging.{well-formed}
 use Rattle.model.proofs.Fields.{settings-most, length-most, source-below, target-below, entry-below, row-road-below, row-distance-most, row-along-most, row-line-most}
@@ -116,5 +116,5 @@ module _ (s : List ℕ) (c : Counts) (w : WellFormed s c) where
   }
 
 -- the judge's verdict gives all that the laws of this crate ask of a sheet
-pub formed : (s : List ℕ) → judged s ≡ Fine → Formed (sheet-of s (counts-of s))
+pub formed : (s : List ℕ) → judged s ≡ Fine → Formed (parsed s)
 formed s e = well-formed-formed s (counts-of s) (well-formed s e)

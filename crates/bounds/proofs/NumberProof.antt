@@ -15,15 +15,14 @@ use Rattle.model.specs.declared.Limits.{Limits}
 use Rattle.model.specs.declared.Judged.the-variants.{Fine}
 use Rattle.model.specs.Numbers.{f0, f1, _<ᶠ_, _≤ᶠ_, _⊘_}
 use Rattle.model.specs.Lists.{In, head, last, maybe}
-use Rattle.model.specs.Layout.{counts-of}
 use Rattle.model.specs.Judge.{judged}
-use Rattle.model.specs.Sheet.{Sheet, road-at, sheet-of}
+use Rattle.model.specs.Sheet.{Sheet, road-at, parsed}
 use Rattle.model.specs.View.{view}
 use Rattle.model.specs.Search.{bounded-astar}
 use Rattle.model.specs.Legs.{Coverage, Route, Pair, fraction-between, effective-min, effective-max, length-alone, fits-alone, start-offset, end-offset, route-alone, start-part, end-part, length-over, stays, terminal, whole, route-over}
 use Rattle.model.specs.Decode.{Segment, Course, roads-of, segment-of, same-number, cover, extended, course-of, Outcome, refused, matched, outcome}
 use Rattle.model.specs.Ends.{finalize-path, part-of, offset-fraction}
-use Rattle.model.specs.Call.{Lists, Match, Decoded, written, match-of, answered, roomy, untouched}
+use Rattle.model.specs.Call.{Lists, Lent, Match, Decoded, written, match-of, answered, roomy, untouched}
 use Rattle.model.specs.Call as call
 use Rattle.model.proofs.Members.{fold-holds, Every, every-none, every-cons, every-append, every-map, every-pad, here, either, in-getD, in-head, in-last}
 use Rattle.bounds.specs.Amounts.{Amount, Finite}
@@ -190,17 +189,20 @@ same-match m n e = cc
 
 pub number-theorem : NumberTheorem
 unfolding untouched answered
-number-theorem s a l = decode-law Right s a l (λ number at m e. absurd (no-match number at 0 m e)) write
+number-theorem s lent = decode-law Right s lent (λ number at m e. absurd (no-match number at 0 m e)) write
   where
     t : Sheet
-    t = sheet-of s (counts-of s)
+    t = parsed s
+
+    l : Lists
+    l = lent .lists
 
     Right : Decoded → Type 0
     Right d = (m : Match) → d .answer ≡ call.matched m → Numbers m (d .lists .lengths)
 
-    write : judged s ≡ Fine → roomy (length (t .stops)) (t .nodes) a l ≡ true → (o : Outcome) → outcome (view t) (bounded-astar (a .heap)) ≡ o → Right (answered t l o)
+    write : judged s ≡ Fine → roomy (length (t .stops)) (t .nodes) lent ≡ true → (o : Outcome) → outcome (view t) (bounded-astar (lent .heap)) ≡ o → Right (answered t l o)
     write fine h (refused n x y) e m f = absurd (no-match n x y m f)
     write fine h (matched k c) e m f =
         let wf = formed s fine in
         subst (λ (x : Match). Numbers x (written t (finalize-path t k .path) l .lengths)) (same-match (match-of t k c (finalize-path t k)) m f)
-        (match-numbers t wf k c l (course-law t wf (InSheet t) (sheet-roads t wf) (a .heap) (RouteNumbers t) (routes-numbers t wf) (CourseNumbers t) (legs-numbers t) k c e))
+        (match-numbers t wf k c l (course-law t wf (InSheet t) (sheet-roads t wf) (lent .heap) (RouteNumbers t) (routes-numbers t wf) (CourseNumbers t) (legs-numbers t) k c e))

@@ -1,6 +1,5 @@
 -- The theorems of specs/Theorems.antt, with the files that prove them.
-use Rattle.model.specs.Layout.{counts-of}
-use Rattle.model.specs.Sheet.{sheet-of}
+use Rattle.model.specs.Sheet.{parsed}
 use Rattle.bounds.specs.Theorems.{Theorems}
 use Rattle.bounds.proofs.FormedProof.{formed}
 use Rattle.bounds.proofs.SearchBound.{search-theorem}
@@ -13,7 +12,7 @@ use Rattle.bounds.proofs.NumberProof.{number-theorem}
 pub theorems : Theorems
 theorems = record {
   searches = search-theorem;
-  walks = λ s fine. walk-theorem (sheet-of s (counts-of s)) (formed s fine);
+  walks = λ s fine. walk-theorem (parsed s) (formed s fine);
   fuel = fuel-theorem;
   room = room-theorem;
   list-lengths = list-theorem;

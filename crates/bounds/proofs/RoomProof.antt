@@ -9,8 +9,7 @@ use lib.ListN.{length, length-append, length-map}
 use lib.Ieee.{Float}
 use Rattle.model.specs.declared.Road.{Road}
 use Rattle.model.specs.Lists.{last, maybe, fold}
-use Rattle.model.specs.Layout.{counts-of}
-use Rattle.model.specs.Sheet.{Sheet, sheet-of}
+use Rattle.model.specs.Sheet.{Sheet, parsed}
 use Rattle.model.specs.Legs.{Coverage, Route, Pair, route-alone, start-part, end-part, length-over, stays, terminal, whole, route-over}
 use Rattle.model.specs.Decode.{Course, roads-of, same-number, append, cover, extended, course-of}
 use Rattle.model.specs.Ends.{finalize-path}
@@ -99,6 +98,6 @@ room t k c e m =
 
 pub room-theorem : RoomTheorem
 room-theorem s fine slots k c e =
-    let t = sheet-of s (counts-of s) in
+    let t = parsed s in
     let wf = formed s fine in
     room t k c (ends-fit t wf k) (course-law t wf (InSheet t) (sheet-roads t wf) slots (Fits t) (routes-fit t wf) (Room t) (legs-fit t) k c e)

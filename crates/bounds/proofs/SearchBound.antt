@@ -1,5 +1,5 @@
 -- `search-theorem`, from what every turn keeps: the labels are sound, the entries made are live, and the heap holds only their numbers.
-use Prim.Native.Nat.{ℕ, _-_, _≤_, _<_}
+use Prim.Native.Nat.{ℕ, zero, suc, _-_, _≤_, _<_}
 use mathlib.Core.Path.{_≡_, refl, _∙_, subst}
 use mathlib.Core.Option.{some}
 use mathlib.Core.List.{List, [], _∷_, _++_, List·Memᴰ·eq-of-singleton}
@@ -112,15 +112,26 @@ module _ (q : Query) (start : ℕ) (ways : Ways q) (slots : ℕ) where
       let e = entry-at (st .made) top in
       visit-same steps (q .nodes - 1) slots q e (popped st) (λ there. steps-enough q start e (popped st) (taken-inv q start st top rest v h) there steps a))
 
-  pub search-good : start < q .nodes → Good q start (bounded-astar slots q start)
-  unfolding bounded-astar search-within
-  search-good h = run-keeps (q .nodes - 1) slots q (Inv q start) (Good q start) tt turn-inv slots (begun q start) (begun-inv q start h)
+  within-good : start < q .nodes → Good q start (search-within (q .nodes - 1) slots slots q start)
+  unfolding search-within
+  within-good h = run-keeps (q .nodes - 1) slots q (Inv q start) (Good q start) tt turn-inv slots (begun q start) (begun-inv q start h)
 
-  search-enough : start < q .nodes → 1 ≤ slots → (steps turns : ℕ) → q .nodes - 1 ≤ steps → slots ≤ turns → search-within steps turns slots q start ≡ bounded-astar slots q start
-  unfolding bounded-astar search-within begun
-  search-enough h one steps turns a b =
+  within-enough : start < q .nodes → 1 ≤ slots → (steps turns : ℕ) → q .nodes - 1 ≤ steps → slots ≤ turns → search-within steps turns slots q start ≡ search-within (q .nodes - 1) slots slots q start
+  unfolding search-within begun
+  within-enough h one steps turns a b =
       run-enough slots q steps slots turns (begun q start) (omega arith) b
       ∙ run-same steps (q .nodes - 1) slots q (Inv q start) (Good q start) (turn-same steps a) turn-inv slots (begun q start) (begun-inv q start h)
+
+pub search-good : (q : Query) (start : ℕ) → Ways q → (slots : ℕ) → start < q .nodes → Good q start (bounded-astar slots q start)
+unfolding bounded-astar
+search-good q start ways zero h = tt
+search-good q start ways (suc k) h = within-good q start ways (suc k) h
+
+search-enough : (q : Query) (start : ℕ) → Ways q → (slots : ℕ) → start < q .nodes → 1 ≤ slots → (steps turns : ℕ) → q .nodes - 1 ≤ steps → slots ≤ turns
+    → search-within steps turns slots q start ≡ bounded-astar slots q start
+unfolding bounded-astar
+search-enough q start ways zero h one = absurd (omega arith)
+search-enough q start ways (suc k) h one = within-enough q start ways (suc k) h one
 
 pub search-theorem : SearchTheorem
 search-theorem q start slots ways h one =

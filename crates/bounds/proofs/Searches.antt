@@ -15,13 +15,13 @@ use Rattle.model.specs.Numbers.{_≤ᶠ_, f0}
 use Rattle.model.specs.Lists.{In, maybe, sort}
 use Rattle.model.specs.Layout.{point-along-line, counts-of}
 use Rattle.model.specs.Judge.{judged}
-use Rattle.model.specs.Sheet.{Stop, Sheet, leaving-roads, sheet-of}
+use Rattle.model.specs.Sheet.{Stop, Sheet, leaving-roads, sheet-of, parsed}
 use Rattle.model.specs.View.{Leg, is-slip, allows, limits-of, place-of, leg-of, leg-stops, view}
 use Rattle.model.specs.Candidates.{Candidate, find-candidates, closest-point}
 use Rattle.model.specs.Search.{Query, Searcher, Found, found, penalty, search-within, bounded-astar}
 use Rattle.model.specs.Legs.{Scored, Pair, Asked, nothing, alone, across, Seek, Sought, best-score, leg-pairs, try-same-edge-solution, asked, middle-of, settled, try-pair, end-or-try, next-pair, try-pairs, by-sum, else-pairs, find-best-path}
 use Rattle.model.specs.Decode.{query-of, seek-of, Course, no-course, Outcome, refused, with-primary, extended, course-of, after-leg, decode-line, decode-point-along-line, decode-legs, first-empty, require-close-candidate, decode-points, outcome}
-use Rattle.model.specs.Call.{Areas, Lists, roomy, answered, untouched, decode-by, decode-sheet, after-judging, decode}
+use Rattle.model.specs.Call.{Lists, Lent, roomy, answered, untouched, decode-by, decode-sheet, after-judging, decode}
 use Rattle.model.proofs.Members.{here, either, in-keep, in-sort}
 use Rattle.bounds.specs.Amounts.{Amount}
 use Rattle.bounds.specs.Formed.{Formed}
@@ -160,19 +160,22 @@ outcome-enough t wf slots steps turns one h k = outcome-same t wf (search-within
     (λ q start ways e m. search-theorem q start slots ways (subst (λ (n : ℕ). start < n) (sym e) m) one .enough steps turns (subst (λ (n : ℕ). n - 1 ≤ steps) (sym e) h) k)
 
 -- nor what a parsed sheet is answered: without room nothing is searched
-sheet-enough : (t : Sheet) → Formed t → (a : Areas) (l : Lists) (steps turns : ℕ) → t .nodes - 1 ≤ steps → a .heap ≤ turns → decode-by (search-within steps turns (a .heap)) t a l ≡ decode-sheet t a l
+sheet-enough : (t : Sheet) → Formed t → (lent : Lent) (steps turns : ℕ) → t .nodes - 1 ≤ steps → lent .heap ≤ turns → decode-by (search-within steps turns (lent .heap)) t lent ≡ decode-sheet t lent
 unfolding decode-by decode-sheet
-sheet-enough t wf a l steps turns h k = go (roomy (length (t .stops)) (t .nodes) a l) refl
+sheet-enough t wf lent steps turns h k = go (roomy (length (t .stops)) (t .nodes) lent) refl
   where
-    go : (b : Bool) → roomy (length (t .stops)) (t .nodes) a l ≡ b
-        → cond b (answered t l (outcome (view t) (search-within steps turns (a .heap)))) (untouched 6 0 l) ≡ cond b (answered t l (outcome (view t) (bounded-astar (a .heap)))) (untouched 6 0 l)
-    go true e = ap (answered t l) (outcome-enough t wf (a .heap) steps turns (roomy-facts (length (t .stops)) (t .nodes) a l e .heap) h k)
+    l : Lists
+    l = lent .lists
+
+    go : (b : Bool) → roomy (length (t .stops)) (t .nodes) lent ≡ b
+        → cond b (answered t l (outcome (view t) (search-within steps turns (lent .heap)))) (untouched 6 0 l) ≡ cond b (answered t l (outcome (view t) (bounded-astar (lent .heap)))) (untouched 6 0 l)
+    go true e = ap (answered t l) (outcome-enough t wf (lent .heap) steps turns (roomy-facts (length (t .stops)) (t .nodes) lent e .heap) h k)
     go false e = refl
 
 pub fuel-theorem : FuelTheorem
 unfolding decode-within decode after-judging sheet-of
-fuel-theorem s a l steps turns h k = go (judged s) refl
+fuel-theorem s lent steps turns h k = go (judged s) refl
   where
-    go : (j : Judged) → judged s ≡ j → after-judging j s l (λ t. decode-by (search-within steps turns (a .heap)) t a l) ≡ after-judging j s l (λ t. decode-sheet t a l)
+    go : (j : Judged) → judged s ≡ j → after-judging j s (lent .lists) (λ t. decode-by (search-within steps turns (lent .heap)) t lent) ≡ after-judging j s (lent .lists) (λ t. decode-sheet t lent)
     go (Refused number at) e = refl
-    go Fine e = sheet-enough (sheet-of s (counts-of s)) (formed s e) a l steps turns h k
+    go Fine e = sheet-enough (parsed s) (formed s e) lent steps turns h k

@@ -10,14 +10,14 @@ use lib.Ieee.{Float}
 use Rattle.model.specs.declared.Road.{Road}
 use Rattle.model.specs.Lists.{In}
 use Rattle.model.specs.Layout.{counts-of}
-use Rattle.model.specs.Sheet.{Sheet, sheet-of}
+use Rattle.model.specs.Sheet.{Sheet, parsed}
 use Rattle.model.specs.Search.{Query, found, search-within, bounded-astar}
 use Rattle.model.specs.Judge.{judged}
 use Rattle.model.specs.View.{view}
 use Rattle.model.specs.Legs.{Coverage}
 use Rattle.model.specs.Decode.{Course, outcome, matched}
 use Rattle.model.specs.Ends.{Walk, fresh, walk, extension, finalize-path}
-use Rattle.model.specs.Call.{Areas, Lists, Match, Decoded, most-entries, after-judging, decode-by, decode}
+use Rattle.model.specs.Call.{Lists, Lent, Match, Decoded, most-entries, after-judging, decode-by, decode}
 use Rattle.model.specs.Call as call
 use Rattle.model.specs.declared.Judged.the-variants.{Fine}
 use Rattle.bounds.specs.Amounts.{Amount, Finite}
@@ -56,12 +56,12 @@ WalkTheorem t = (forward : Bool) (cap : Float) (path : List ℕ) (r : ℕ) → W
 -- ---- the whole call
 
 -- the call with any bounds on the steps back and on the turns of its searches
-unfoldable pub decode-within : ℕ → ℕ → List ℕ → Areas → Lists → Decoded
-decode-within steps turns s a l = after-judging (judged s) s l (λ t. decode-by (search-within steps turns (a .heap)) t a l)
+unfoldable pub decode-within : ℕ → ℕ → List ℕ → Lent → Decoded
+decode-within steps turns s lent = after-judging (judged s) s (lent .lists) (λ t. decode-by (search-within steps turns (lent .heap)) t lent)
 
 -- Larger bounds change no answer and no list, on any byte sequence.
 abbrev pub FuelTheorem : Type 0
-FuelTheorem = (s : List ℕ) (a : Areas) (l : Lists) (steps turns : ℕ) → counts-of s .n - 1 ≤ steps → a .heap ≤ turns → decode-within steps turns s a l ≡ decode s a l
+FuelTheorem = (s : List ℕ) (lent : Lent) (steps turns : ℕ) → counts-of s .n - 1 ≤ steps → lent .heap ≤ turns → decode-within steps turns s lent ≡ decode s lent
 
 -- What the legs write, what they cover, and the path with both ends have at most (P + 4) (N + 1) entries.
 pub record RoomBound (t : Sheet) (k : Course) : Type 0 where
@@ -71,7 +71,7 @@ pub record RoomBound (t : Sheet) (k : Course) : Type 0 where
 
 abbrev pub RoomTheorem : Type 0
 RoomTheorem = (s : List ℕ) → judged s ≡ Fine → (slots : ℕ) (k : Course) (c : Coverage)
-    → outcome (view (sheet-of s (counts-of s))) (bounded-astar slots) ≡ matched k c → RoomBound (sheet-of s (counts-of s)) k
+    → outcome (view (parsed s)) (bounded-astar slots) ≡ matched k c → RoomBound (parsed s) k
 
 -- The answer lists keep their length in every call.
 pub record SameLength (before after : Lists) : Type 0 where
@@ -79,7 +79,7 @@ pub record SameLength (before after : Lists) : Type 0 where
   pub lengths : length (after .lengths) ≡ length (before .lengths)
 
 abbrev pub ListTheorem : Type 0
-ListTheorem = (s : List ℕ) (a : Areas) (l : Lists) → SameLength l (decode s a l .lists)
+ListTheorem = (s : List ℕ) (lent : Lent) → SameLength (lent .lists) (decode s lent .lists)
 
 -- No f64 of an answer is a NaN or -0. An end fraction can be +infinity.
 pub record Numbers (m : Match) (list : List Float) : Type 0 where
@@ -92,13 +92,13 @@ pub record Numbers (m : Match) (list : List Float) : Type 0 where
   pub lengths : (x : Float) → In x list → Finite x
 
 abbrev pub NumberTheorem : Type 0
-NumberTheorem = (s : List ℕ) (a : Areas) (l : Lists) (m : Match) → decode s a l .answer ≡ call.matched m → Numbers m (decode s a l .lists .lengths)
+NumberTheorem = (s : List ℕ) (lent : Lent) (m : Match) → decode s lent .answer ≡ call.matched m → Numbers m (decode s lent .lists .lengths)
 
 -- ---- all of them
 
 pub record Theorems : Type 0 where
   pub searches : SearchTheorem
-  pub walks : (s : List ℕ) → judged s ≡ Fine → WalkTheorem (sheet-of s (counts-of s))
+  pub walks : (s : List ℕ) → judged s ≡ Fine → WalkTheorem (parsed s)
   pub fuel : FuelTheorem
   pub room : RoomTheorem
   pub list-lengths : ListTheorem

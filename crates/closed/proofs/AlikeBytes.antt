@@ -11,9 +11,9 @@ use Rattle.model.specs.Lists.{tab}
 use Rattle.model.specs.Bytes.{section}
 use Rattle.model.specs.Layout.{counts-of, points-at, distances-at, goal-width, road-bytes}
 use Rattle.model.specs.Judge.{WellFormed}
-use Rattle.model.specs.Sheet.{settings-of, stop-of, road-of, goal-of, sheet-of, no-road, road-at}
+use Rattle.model.specs.Sheet.{settings-of, stop-of, road-of, goal-of, sheet-of, parsed, no-road, road-at}
 use Rattle.model.proofs.Members.{length-tab, getD-table}
-use Rattle.closed.specs.Closed.{parsed, Agree, Alike}
+use Rattle.closed.specs.Closed.{Agree, Alike}
 use Rattle.closed.proofs.AlikeSheets.{AgreeSheets, AlikeSheets}
 
 -- ---- one sheet

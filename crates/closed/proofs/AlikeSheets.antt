@@ -22,7 +22,7 @@ use Rattle.model.specs.Legs.{Coverage}
 use Rattle.model.specs.Decode.{Course, Outcome, outcome}
 use Rattle.model.specs.Decode as outcomes
 use Rattle.model.specs.Ends.{Ends, ends-of, finalize-path, part-of, offset-fraction}
-use Rattle.model.specs.Call.{Areas, Lists, Match, Decoded, written, match-of, answered, roomy, untouched, decode-by, decode-sheet}
+use Rattle.model.specs.Call.{Lists, Lent, Match, Decoded, written, match-of, answered, roomy, untouched, decode-by, decode-sheet}
 use Rattle.model.specs.Call as call
 use Rattle.model.proofs.Members.{all-at, any-of, keep-keep, in-keep, map-eq, keep-map, in-head, in-last, Every, every-map}
 use Rattle.model.proofs.Judging.{all-of-at}
@@ -119,12 +119,12 @@ unfolding core answered match-of
 core-answered t l (outcomes.refused n x y) = refl
 core-answered t l (outcomes.matched k c) = refl
 
-core-decode : (t : Sheet) (s : Areas) (l : Lists) → core (decode-sheet t s l .answer) ≡ cond (roomy (length (t .stops)) (t .nodes) s l) (core-of (outcome (view t) (bounded-astar (s .heap)))) (refusal 6 0 0)
+core-decode : (t : Sheet) (lent : Lent) → core (decode-sheet t lent .answer) ≡ cond (roomy (length (t .stops)) (t .nodes) lent) (core-of (outcome (view t) (bounded-astar (lent .heap)))) (refusal 6 0 0)
 unfolding decode-sheet decode-by untouched core
-core-decode t s l = go (roomy (length (t .stops)) (t .nodes) s l)
+core-decode t lent = go (roomy (length (t .stops)) (t .nodes) lent)
   where
-    go : (r : Bool) → core (cond r (answered t l (outcome (view t) (bounded-astar (s .heap)))) (untouched 6 0 l) .answer) ≡ cond r (core-of (outcome (view t) (bounded-astar (s .heap)))) (refusal 6 0 0)
-    go true = core-answered t l (outcome (view t) (bounded-astar (s .heap)))
+    go : (r : Bool) → core (cond r (answered t (lent .lists) (outcome (view t) (bounded-astar (lent .heap)))) (untouched 6 0 (lent .lists)) .answer) ≡ cond r (core-of (outcome (view t) (bounded-astar (lent .heap)))) (refusal 6 0 0)
+    go true = core-answered t (lent .lists) (outcome (view t) (bounded-astar (lent .heap)))
     go false = refl
 
 -- ---- two sheets
@@ -168,15 +168,15 @@ module _ (a b : Sheet) (form : Formed a) (h : AlikeSheets a b) where
   outcome-eq : (search : Searcher) → outcome (view a) search ≡ outcome (view b) search
   outcome-eq search = ap (λ (v : View). outcome v search) view-eq
 
-  roomy-eq : (s : Areas) (l : Lists) → roomy (length (a .stops)) (a .nodes) s l ≡ roomy (length (b .stops)) (b .nodes) s l
-  roomy-eq s l = ap₂ (λ (ps : List Stop) (n : ℕ). roomy (length ps) n s l) (h .stops) (h .nodes)
+  roomy-eq : (lent : Lent) → roomy (length (a .stops)) (a .nodes) lent ≡ roomy (length (b .stops)) (b .nodes) lent
+  roomy-eq lent = ap₂ (λ (ps : List Stop) (n : ℕ). roomy (length ps) n lent) (h .stops) (h .nodes)
 
   -- the first half of the demand
-  pub same-core : (s : Areas) (l : Lists) → core (decode-sheet a s l .answer) ≡ core (decode-sheet b s l .answer)
-  same-core s l =
-      core-decode a s l
-      ∙ ap₂ (λ (r : Bool) (o : Outcome). cond r (core-of o) (refusal 6 0 0)) (roomy-eq s l) (outcome-eq (bounded-astar (s .heap)))
-      ∙ sym (core-decode b s l)
+  pub same-core : (lent : Lent) → core (decode-sheet a lent .answer) ≡ core (decode-sheet b lent .answer)
+  same-core lent =
+      core-decode a lent
+      ∙ ap₂ (λ (r : Bool) (o : Outcome). cond r (core-of o) (refusal 6 0 0)) (roomy-eq lent) (outcome-eq (bounded-astar (lent .heap)))
+      ∙ sym (core-decode b lent)
 
   -- ---- a matched course
 
@@ -245,7 +245,7 @@ module _ (a b : Sheet) (form : Formed a) (h : AlikeSheets a b) where
         from t e = record { answer = call.matched (match-of t k c e); lists = written t (e .path) l }
 
     -- the second half
-    pub same-whole : (s : Areas) (l : Lists) → decode-sheet a s l ≡ decode-sheet b s l
+    pub same-whole : (lent : Lent) → decode-sheet a lent ≡ decode-sheet b lent
     unfolding decode-sheet decode-by
-    same-whole s l = ap₂ (λ (r : Bool) (d : Decoded). cond r d (untouched 6 0 l)) (roomy-eq s l)
-        (answered-eq (s .heap) l (outcome (view a) (bounded-astar (s .heap))) refl ∙ ap (answered b l) (outcome-eq (bounded-astar (s .heap))))
+    same-whole lent = ap₂ (λ (r : Bool) (d : Decoded). cond r d (untouched 6 0 (lent .lists))) (roomy-eq lent)
+        (answered-eq (lent .heap) (lent .lists) (outcome (view a) (bounded-astar (lent .heap))) refl ∙ ap (answered b (lent .lists)) (outcome-eq (bounded-astar (lent .heap))))

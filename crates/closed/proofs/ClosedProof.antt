@@ -11,20 +11,20 @@ use Rattle.model.specs.declared.Judged.the-variants.{Fine}
 use Rattle.model.specs.Numbers.{f0}
 use Rattle.model.specs.Lists.{In}
 use Rattle.model.specs.Judge.{judged}
-use Rattle.model.specs.Sheet.{Sheet}
-use Rattle.model.specs.Call.{Areas, Lists, Decoded, decode-sheet, after-judging, decode}
+use Rattle.model.specs.Sheet.{Sheet, parsed}
+use Rattle.model.specs.Call.{Lent, Decoded, decode-sheet, after-judging, decode}
 use Rattle.model.proofs.Members.{all-at}
 use Rattle.model.proofs.Judging.{well-formed}
 use Rattle.bounds.proofs.FormedProof.{formed}
 use Rattle.bounds.proofs.Still.{finalize-plain}
-use Rattle.closed.specs.Closed.{parsed, core, no-zero-length, Demand3}
+use Rattle.closed.specs.Closed.{core, no-zero-length, Demand3}
 use Rattle.closed.proofs.AlikeSheets.{same-core, same-whole}
 use Rattle.closed.proofs.AlikeBytes.{alike-sheets}
 
 -- a well-formed sheet is decoded
-decode-fine : (s : List ℕ) (a : Areas) (l : Lists) → judged s ≡ Fine → decode s a l ≡ decode-sheet (parsed s) a l
+decode-fine : (s : List ℕ) (lent : Lent) → judged s ≡ Fine → decode s lent ≡ decode-sheet (parsed s) lent
 unfolding decode after-judging
-decode-fine s a l e = rw (e, after-judging)
+decode-fine s lent e = rw (e, after-judging)
 
 -- no road of it has length 0
 road-not-zero : (t : Sheet) → no-zero-length t ≡ true → (r : Road) → In r (t .roads) → T (not (eq (r .metres) f0))
@@ -33,15 +33,15 @@ road-not-zero t e r m = all-at (λ r. not (eq (r .metres) f0)) (subst T (sym e) 
 
 -- the demand
 pub demand3 : Demand3
-demand3 x y fx fy h a l =
+demand3 x y fx fy h lent =
     let alike = alike-sheets x y (well-formed x fx) (well-formed y fy) h in
     record {
-      same-core = ap (λ (d : Decoded). core (d .answer)) (decode-fine x a l fx) ∙ same-core (parsed x) (parsed y) (formed x fx) alike a l ∙ sym (ap (λ (d : Decoded). core (d .answer)) (decode-fine y a l fy));
+      same-core = ap (λ (d : Decoded). core (d .answer)) (decode-fine x lent fx) ∙ same-core (parsed x) (parsed y) (formed x fx) alike lent ∙ sym (ap (λ (d : Decoded). core (d .answer)) (decode-fine y lent fy));
       same-whole = λ off zx zy.
-          decode-fine x a l fx
+          decode-fine x lent fx
           ∙ same-whole (parsed x) (parsed y) (formed x fx) alike
           (finalize-plain (parsed x) (formed x fx) (road-not-zero (parsed x) zx) off)
           (finalize-plain (parsed y) (formed y fy) (road-not-zero (parsed y) zy) (ap (λ (c : Settings). c .«snap_to_valid_nodes») (sym (alike .settings)) ∙ off))
-          a l
-          ∙ sym (decode-fine y a l fy);
+          lent
+          ∙ sym (decode-fine y lent fy);
     }

@@ -8,9 +8,9 @@ use lib.Dec.{T}
 use lib.ListN.{length, List·getD-eq-default}
 use Rattle.model.specs.Lists.{keep}
 use Rattle.model.specs.Layout.{counts-of, settings-bytes, points-bytes, road-bytes, rows-bytes, distances-bytes}
-use Rattle.model.specs.Sheet.{list-at}
+use Rattle.model.specs.Sheet.{parsed, list-at}
 use Rattle.model.proofs.Computes.{computes}
-use Rattle.closed.specs.Closed.{exceeds, named, is-closed, is-open, parsed, Agree, Alike, core}
+use Rattle.closed.specs.Closed.{exceeds, named, is-closed, is-open, Agree, Alike, core}
 use Rattle.closed.specs.Sharp.{path-count, without, with-loop, Differ, Sharp}
 
 -- two sheets of three nodes, one with the open roads 0 and 1, the other with these and the closed road 2

@@ -11,9 +11,9 @@ use Rattle.model.specs.Lists.{keep, any, all}
 use Rattle.model.specs.Table.{all-of}
 use Rattle.model.specs.Layout.{counts-of, settings-bytes, points-bytes, road-bytes, rows-bytes, distances-bytes}
 use Rattle.model.specs.Judge.{judged}
-use Rattle.model.specs.Sheet.{Sheet, sheet-of, road-at, list-at}
+use Rattle.model.specs.Sheet.{Sheet, parsed, road-at, list-at}
 use Rattle.model.specs.View.{is-slip, leg-stops}
-use Rattle.model.specs.Call.{Areas, Lists, Answer, refused, matched, decode}
+use Rattle.model.specs.Call.{Lent, Answer, refused, matched, decode}
 
 -- ---- closed roads
 
@@ -37,10 +37,6 @@ unfoldable pub is-open : Sheet → ℕ → Bool
 is-open t i = not (is-closed t i)
 
 -- ---- alike sheets
-
--- the sheet that a well-formed byte sequence holds
-abbrev pub parsed : List ℕ → Sheet
-parsed s = sheet-of s (counts-of s)
 
 -- Every road of x that is not closed there is a road of y, with the same number and the same 32 bytes.
 abbrev pub Agree : List ℕ → List ℕ → Type 0
@@ -73,9 +69,9 @@ unfoldable pub no-zero-length : Sheet → Bool
 no-zero-length t = all (λ r. not (eq (r .metres) f0)) (t .roads)
 
 -- With snapping off and no road of length 0 on either sheet, the whole answer and both lists.
-pub record Powerless (x y : List ℕ) (a : Areas) (l : Lists) : Type 0 where
-  pub same-core : core (decode x a l .answer) ≡ core (decode y a l .answer)
-  pub same-whole : parsed x .settings .«snap_to_valid_nodes» ≡ false → no-zero-length (parsed x) ≡ true → no-zero-length (parsed y) ≡ true → decode x a l ≡ decode y a l
+pub record Powerless (x y : List ℕ) (lent : Lent) : Type 0 where
+  pub same-core : core (decode x lent .answer) ≡ core (decode y lent .answer)
+  pub same-whole : parsed x .settings .«snap_to_valid_nodes» ≡ false → no-zero-length (parsed x) ≡ true → no-zero-length (parsed y) ≡ true → decode x lent ≡ decode y lent
 
 abbrev pub Demand3 : Type 0
-Demand3 = (x y : List ℕ) → judged x ≡ Fine → judged y ≡ Fine → Alike x y → (a : Areas) (l : Lists) → Powerless x y a l
+Demand3 = (x y : List ℕ) → judged x ≡ Fine → judged y ≡ Fine → Alike x y → (lent : Lent) → Powerless x y lent

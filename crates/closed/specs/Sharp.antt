@@ -6,10 +6,11 @@ use mathlib.Core.List.{List, [], _∷_}
 use Rattle.model.specs.declared.Judged.the-variants.{Fine}
 use Rattle.model.specs.Numbers.{nat}
 use Rattle.model.specs.Judge.{judged}
+use Rattle.model.specs.Sheet.{parsed}
 use Rattle.model.specs.Call.{Decoded, Answer, refused, matched, decode}
 use Rattle.model.specs.Build.{settings-with, point, road, row, goal, sheet-bytes}
-use Rattle.model.specs.Marked.{areas, lists}
-use Rattle.closed.specs.Closed.{is-closed, parsed, Alike, Core, refusal, match, core}
+use Rattle.model.specs.Marked.{lent}
+use Rattle.closed.specs.Closed.{is-closed, Alike, Core, refusal, match, core}
 
 -- the Rust's default settings, with snapping 0 or 1
 abbrev pub settings : ℕ → List ℕ
@@ -60,7 +61,7 @@ path-count d = count (d .answer)
 pub record Differ (x y : List ℕ) (m n : ℕ) : Type 0 where
   pub fine : (judged x ≡ Fine) × (judged y ≡ Fine)
   pub alike : Alike x y
-  pub counts : (path-count (decode x areas lists) ≡ m) × (path-count (decode y areas lists) ≡ n)
+  pub counts : (path-count (decode x lent) ≡ m) × (path-count (decode y lent) ≡ n)
 
 -- ---- a road that is not closed
 
@@ -117,7 +118,7 @@ named-road class = sheet-bytes record {
 }
 
 abbrev pub core-of : List ℕ → Core
-core-of s = core (decode s areas lists .answer)
+core-of s = core (decode s lent .answer)
 
 pub record Sharp : Type 0 where
   -- with snapping on a closed road changes the path

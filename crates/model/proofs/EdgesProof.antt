@@ -59,6 +59,7 @@ ties = record {
   drawn = refl;
   first-label = refl;
   list-order = refl;
+  no-slot = refl;
   one-slot-less = refl;
   real-bound = refl;
   kept-cost = refl;

@@ -9,7 +9,7 @@ use lib.Dec.{leb, ltb}
 use borrow.Author.Tests.{not-true, leb-true, ltb-true, eqb-true}
 use Rattle.model.specs.declared.Counts.{Counts}
 use Rattle.model.specs.Table.{every, met}
-use Rattle.model.specs.Judge.{source-of, start-of, entry-of, start-rises, in-part, entry-good, lists-good, Listed, Sound}
+use Rattle.model.specs.Judge.{source-of, start-of, entry-of, start-rises, in-part, entry-good, lists-good, Sound}
 use Rattle.model.proofs.Judging.{and-left, and-right, all-of-at}
 use Rattle.model.proofs.Fields.{source-below, entry-below}
 use Rattle.model.proofs.Once.{met-yes, met-place, all-met}
@@ -22,6 +22,14 @@ every-at t (suc k) j e zero h = rw add-zero (and-left (t j) _ e)
 every-at t (suc k) j e (suc i) h =
     let there : j + 1 + i ≡ j + suc i = omega arith in
     rw there at (every-at t k (j + 1) (and-right (t j) _ e) i (le-of-suc-le-suc h))
+
+-- Where road r stands in the lists: at one place, in its source's part.
+pub record Listed (s : List ℕ) (c : Counts) (r : ℕ) : Type 0 where
+  pub place : ℕ
+  pub below : place < c .e
+  pub is : entry-of s c place ≡ r
+  pub inside : in-part s c (source-of s c r) place ≡ true
+  pub once : (j : ℕ) → j < c .e → entry-of s c j ≡ r → j ≡ place
 
 module _ (s : List ℕ) (c : Counts) (ok : Sound s c) (good : lists-good s c ≡ true) where
   -- ---- the parts lie one behind the other, and end at E

@@ -10,9 +10,8 @@ use Rattle.model.specs.declared.Judged.the-variants.{Fine, Refused}
 use Rattle.model.specs.Numbers.{f0}
 use Rattle.model.specs.Lists.{head, last, pad}
 use Rattle.model.specs.Table.{all-of}
-use Rattle.model.specs.Layout.{counts-of}
 use Rattle.model.specs.Judge.{judged}
-use Rattle.model.specs.Sheet.{Sheet, road-at, sheet-of}
+use Rattle.model.specs.Sheet.{Sheet, road-at, parsed}
 use Rattle.model.specs.View.{view}
 use Rattle.model.specs.Search.{Searcher, bounded-astar}
 use Rattle.model.specs.Legs.{Coverage}
@@ -20,17 +19,19 @@ use Rattle.model.specs.Decode.{Course, Outcome, outcome}
 use Rattle.model.specs.Decode as outcomes
 use Rattle.model.specs.Ends.{Ends, finalize-path, offset-fraction}
 
--- The sizes of the work areas, in entries. Nothing else of them matters: no result depends on what stands in them.
-pub record Areas : Type 0 where
-  pub node : ℕ
-  pub route : ℕ
-  pub heap : ℕ
-  pub coverage : ℕ
-
 -- The two answer lists.
 pub record Lists : Type 0 where
   pub ids : List ℕ
   pub lengths : List Float
+
+-- What a call is lent: the sizes of the work areas in entries, and the answer lists as they are at entry.
+-- Nothing else of the areas matters: no result depends on what stands in them.
+pub record Lent : Type 0 where
+  pub node : ℕ
+  pub route : ℕ
+  pub heap : ℕ
+  pub coverage : ℕ
+  pub lists : Lists
 
 -- Path count, length (the leg sum), offset and fraction at both ends, primary road and its coverage.
 pub record Match : Type 0 where
@@ -82,15 +83,15 @@ answered t l (outcomes.matched k c) =
 abbrev pub most-entries : ℕ → ℕ → ℕ
 most-entries points nodes = (points + 4) * (nodes + 1)
 
--- what refusal 6 asks of the areas
-unfoldable pub roomy : ℕ → ℕ → Areas → Lists → Bool
-roomy points nodes a l = all-of
-    (leb nodes (a .node)
-    ∷ leb (nodes + 1) (a .route)
-    ∷ leb 1 (a .heap)
-    ∷ leb (most-entries points nodes) (a .coverage)
-    ∷ leb (most-entries points nodes) (length (l .ids))
-    ∷ leb (most-entries points nodes) (length (l .lengths))
+-- what refusal 6 asks of what is lent
+unfoldable pub roomy : ℕ → ℕ → Lent → Bool
+roomy points nodes lent = all-of
+    (leb nodes (lent .node)
+    ∷ leb (nodes + 1) (lent .route)
+    ∷ leb 1 (lent .heap)
+    ∷ leb (most-entries points nodes) (lent .coverage)
+    ∷ leb (most-entries points nodes) (length (lent .lists .ids))
+    ∷ leb (most-entries points nodes) (length (lent .lists .lengths))
     ∷ [])
 
 -- refusals 1 to 6 leave both lists untouched
@@ -98,16 +99,16 @@ unfoldable pub untouched : ℕ → ℕ → Lists → Decoded
 untouched number at l = record { answer = refused number at 0; lists = l }
 
 -- a parsed sheet decoded by some search
-unfoldable pub decode-by : Searcher → Sheet → Areas → Lists → Decoded
-decode-by search t a l = cond (roomy (length (t .stops)) (t .nodes) a l) (answered t l (outcome (view t) search)) (untouched 6 0 l)
+unfoldable pub decode-by : Searcher → Sheet → Lent → Decoded
+decode-by search t lent = cond (roomy (length (t .stops)) (t .nodes) lent) (answered t (lent .lists) (outcome (view t) search)) (untouched 6 0 (lent .lists))
 
-unfoldable pub decode-sheet : Sheet → Areas → Lists → Decoded
-decode-sheet t a l = decode-by (bounded-astar (a .heap)) t a l
+unfoldable pub decode-sheet : Sheet → Lent → Decoded
+decode-sheet t lent = decode-by (bounded-astar (lent .heap)) t lent
 
 -- refusals 1 to 5, or on with the parsed sheet
 unfoldable pub after-judging : Judged → List ℕ → Lists → (Sheet → Decoded) → Decoded
 after-judging (Refused number at) s l again = untouched number at l
-after-judging Fine s l again = again (sheet-of s (counts-of s))
+after-judging Fine s l again = again (parsed s)
 
-unfoldable pub decode : List ℕ → Areas → Lists → Decoded
-decode s a l = after-judging (judged s) s l (λ t. decode-sheet t a l)
+unfoldable pub decode : List ℕ → Lent → Decoded
+decode s lent = after-judging (judged s) s (lent .lists) (λ t. decode-sheet t lent)

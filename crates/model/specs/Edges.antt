@@ -16,9 +16,9 @@ use Rattle.model.specs.Heap.{push, pop}
 use Rattle.model.specs.Search.{Query, Searcher, found, full, bounded-astar}
 use Rattle.model.specs.Legs.{Coverage, Scored, Pair, Seek, best, heap-full, close, excellent, pair, by-sum, route-alone, try-pairs}
 use Rattle.model.specs.Decode.{seek-of, greater}
-use Rattle.model.specs.Call.{Areas, Lists, Decoded, Match, refused, matched, decode}
+use Rattle.model.specs.Call.{Lists, Lent, Decoded, Match, refused, matched, decode}
 use Rattle.model.specs.Build.{settings-with, default-settings, point, road, row, goal, sheet-bytes}
-use Rattle.model.specs.Marked.{areas, lists, refusal, one-road, first-point, last-point, on-road, two-points, defaults, class-1}
+use Rattle.model.specs.Marked.{lists, with-heap, lent, refusal, one-road, first-point, last-point, on-road, two-points, defaults, class-1}
 
 -- ---- the refusals
 
@@ -30,8 +30,8 @@ untouched number at = record { answer = refused number at 0; lists = lists }
 abbrev pub changed : ℕ → ℕ → List ℕ
 changed at byte = set (two-points 25 75) at byte
 
-abbrev pub small : Areas
-small = record { node = 1; route = 65; heap = 128; coverage = 256 }
+abbrev pub small : Lent
+small = record { node = 1; route = 65; heap = 128; coverage = 256; lists = lists }
 
 -- Three roads in a row, 0 to 1 to 2 to 3, with these ids; all node distances 0.
 abbrev pub three-roads : ℕ → List ℕ → List (List ℕ) → List (List ℕ) → List (List ℕ) → List ℕ
@@ -59,22 +59,35 @@ to-node v = goal v (0 ∷ 0 ∷ 0 ∷ 0 ∷ [])
 abbrev pub over-three : ℕ → List ℕ
 over-three kind = three-roads kind (700 ∷ 701 ∷ 702 ∷ []) (point 200 3 3 3 1 ∷ last-point 1 ∷ []) (middle-of-road 0 ∷ middle-of-road 2 ∷ []) (to-node 2 ∷ [])
 
-abbrev pub heap-of : ℕ → Areas
-heap-of slots = record { node = 64; route = 65; heap = slots; coverage = 256 }
+-- four roads in a row, from the middle of the first to the middle of the last: two roads to search, three entries
+abbrev pub two-to-search : List ℕ
+two-to-search = sheet-bytes record {
+  kind = 1;
+  nodes = 5;
+  settings = default-settings;
+  points = point 300 3 3 3 1 ∷ last-point 1 ∷ [];
+  roads = road 700 100 0 1 3 3 0 ∷ road 701 100 1 2 3 3 0 ∷ road 702 100 2 3 3 3 0 ∷ road 703 100 3 4 3 3 0 ∷ [];
+  starts = 0 ∷ 1 ∷ 2 ∷ 3 ∷ 4 ∷ 4 ∷ [];
+  numbers = 0 ∷ 1 ∷ 2 ∷ 3 ∷ [];
+  rows = middle-of-road 0 ∷ middle-of-road 3 ∷ [];
+  from-first = 0 ∷ 0 ∷ 0 ∷ 0 ∷ 0 ∷ [];
+  from-last = 0 ∷ 0 ∷ 0 ∷ 0 ∷ 0 ∷ [];
+  goals = goal 3 (0 ∷ 0 ∷ 0 ∷ 0 ∷ 0 ∷ []) ∷ [];
+}
 
 pub record RefusalExamples : Type 0 where
-  pub short : decode (take 55 (two-points 25 75)) areas lists ≡ untouched 1 0
-  pub points : decode (changed 4 17) areas lists ≡ untouched 2 0
-  pub not-two-points : decode (sheet-bytes record { kind = 2; nodes = 0; settings = []; points = []; roads = []; starts = []; numbers = []; rows = []; from-first = []; from-last = []; goals = [] }) areas lists ≡ untouched 2 0
-  pub total : decode (changed 48 145) areas lists ≡ untouched 3 0
-  pub minus-zero : decode (set (changed 230 0) 231 128) areas lists ≡ untouched 4 224
-  pub spare : decode (changed 245 1) areas lists ≡ untouched 4 245
-  pub kind-zero : decode (changed 0 0) areas lists ≡ untouched 4 0
-  pub unlisted : decode (changed 252 0) areas lists ≡ untouched 5 0
-  pub small-area : decode (two-points 25 75) small lists ≡ untouched 6 0
-  pub kind-four : decode (changed 0 4) areas lists ≡ refusal 7 4 0
-  pub no-rows : decode (sheet-bytes (one-road (first-point 0 ∷ last-point 1 ∷ []) (on-road 75 ∷ []))) areas lists ≡ refusal 9 0 0
-  pub full-heap : decode (over-three 1) (heap-of 1) lists ≡ refusal 11 0 0
+  pub short : decode (take 55 (two-points 25 75)) lent ≡ untouched 1 0
+  pub points : decode (changed 4 17) lent ≡ untouched 2 0
+  pub not-two-points : decode (sheet-bytes record { kind = 2; nodes = 0; settings = []; points = []; roads = []; starts = []; numbers = []; rows = []; from-first = []; from-last = []; goals = [] }) lent ≡ untouched 2 0
+  pub total : decode (changed 48 145) lent ≡ untouched 3 0
+  pub minus-zero : decode (set (changed 230 0) 231 128) lent ≡ untouched 4 224
+  pub spare : decode (changed 245 1) lent ≡ untouched 4 245
+  pub kind-zero : decode (changed 0 0) lent ≡ untouched 4 0
+  pub unlisted : decode (changed 252 0) lent ≡ untouched 5 0
+  pub small-area : decode (two-points 25 75) small ≡ untouched 6 0
+  pub kind-four : decode (changed 0 4) lent ≡ refusal 7 4 0
+  pub no-rows : decode (sheet-bytes (one-road (first-point 0 ∷ last-point 1 ∷ []) (on-road 75 ∷ []))) lent ≡ refusal 9 0 0
+  pub full-heap : decode two-to-search (with-heap 1) ≡ refusal 11 0 0
 
 -- ---- other edges
 
@@ -200,15 +213,15 @@ far-match = record {
 pub record OtherEdges : Type 0 where
   pub exactly-10 : (close limits (pair-at 10 10) ≡ true) × (close limits (pair-at 10 11) ≡ false)
   pub exactly-5 : (excellent (pair-at 4 4) ≡ true) × (excellent (pair-at 4 5) ≡ false)
-  pub excellent-length : decode far-on-road areas lists ≡ record { answer = matched far-match; lists = record { ids = 700 ∷ replicate 255 0; lengths = nat 1000 ∷ replicate 255 f0 } }
+  pub excellent-length : decode far-on-road lent ≡ record { answer = matched far-match; lists = record { ids = 700 ∷ replicate 255 0; lengths = nat 1000 ∷ replicate 255 f0 } }
   pub start-is-goal : (v : View) (search : Searcher) (leg : Leg) (n : ℕ) (bound : Float) → seek-of v search leg n n bound ≡ found f0 []
   pub bearing-360 : bearing-difference (nat 360) f0 ≡ f0
   -- the search makes two entries
-  pub exact-heap : decode (over-three 1) (heap-of 2) lists ≡ record { answer = matched (three-match 701); lists = three-lists 700 701 702 }
-  pub along-line : decode (over-three 2) (heap-of 2) lists ≡ record { answer = matched (three-match 701); lists = three-lists 700 701 702 }
-  pub summed-by-number : decode two-legs (heap-of 1) lists ≡ record { answer = matched (three-match 700); lists = three-lists 700 700 702 }
-  pub cut-before-closest : decode cut-first areas lists ≡ refusal 9 0 0
-  pub walk-any-class : decode longer areas lists ≡ record { answer = matched longer-match; lists = record { ids = 700 ∷ 701 ∷ replicate 254 0; lengths = nat 100 ∷ nat 20 ∷ replicate 254 f0 } }
+  pub exact-heap : decode (over-three 1) (with-heap 2) ≡ record { answer = matched (three-match 701); lists = three-lists 700 701 702 }
+  pub along-line : decode (over-three 2) (with-heap 2) ≡ record { answer = matched (three-match 701); lists = three-lists 700 701 702 }
+  pub summed-by-number : decode two-legs (with-heap 1) ≡ record { answer = matched (three-match 700); lists = three-lists 700 700 702 }
+  pub cut-before-closest : decode cut-first lent ≡ refusal 9 0 0
+  pub walk-any-class : decode longer lent ≡ record { answer = matched longer-match; lists = record { ids = 700 ∷ 701 ∷ replicate 254 0; lengths = nat 100 ∷ nat 20 ∷ replicate 254 f0 } }
   pub access-track : is-access-road (116 ∷ 114 ∷ 97 ∷ 99 ∷ 107 ∷ []) ≡ true
   pub access-prefix : is-access-road (116 ∷ 114 ∷ 97 ∷ []) ≡ false
   pub access-longer : is-access-road (116 ∷ 114 ∷ 97 ∷ 99 ∷ 107 ∷ 115 ∷ []) ≡ false
@@ -267,6 +280,8 @@ pub record Ties : Type 0 where
   -- among equal routes the one labelled first stays, in the order of the lists and not of the nodes
   pub first-label : bounded-astar 4 upper-first 0 ≡ found (nat 20) (upper false)
   pub list-order : bounded-astar 4 lower-first 0 ≡ found (nat 20) lower
+  -- the start's entry counts too
+  pub no-slot : bounded-astar 0 upper-first 0 ≡ full
   -- the search made four entries
   pub one-slot-less : bounded-astar 3 upper-first 0 ≡ full
   -- real length decides the bound

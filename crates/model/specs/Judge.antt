@@ -148,14 +148,6 @@ lists-good s c = all-of
     ∷ every (entry-good s c) (c .e) 0
     ∷ [])
 
--- Where road r stands in the lists: at one place, in its source's part.
-pub record Listed (s : List ℕ) (c : Counts) (r : ℕ) : Type 0 where
-  pub place : ℕ
-  pub below : place < c .e
-  pub is : entry-of s c place ≡ r
-  pub inside : in-part s c (source-of s c r) place ≡ true
-  pub once : (j : ℕ) → j < c .e → entry-of s c j ≡ r → j ≡ place
-
 -- ---- refusal 5: the rows and the goals
 
 abbrev pub row-rises : List ℕ → Counts → ℕ → Bool

@@ -13,15 +13,18 @@ use Rattle.model.specs.View.{Spot, max-valid-distance, raised}
 use Rattle.model.specs.Candidates.{bearing-difference, fraction, compute-score, candidate-of, passes}
 use Rattle.model.specs.Legs.{stays}
 use Rattle.model.specs.Ends.{is-valid-node}
-use Rattle.model.specs.Call.{Areas, Lists, Decoded, Match, refused, matched, decode}
+use Rattle.model.specs.Call.{Lists, Lent, Decoded, Match, refused, matched, decode}
 use Rattle.model.specs.Build.{Parts, default-settings, point, road, row, goal, sheet-bytes}
 
--- the areas of the list program, and answer lists that hold something
-abbrev pub areas : Areas
-areas = record { node = 64; route = 65; heap = 128; coverage = 256 }
-
+-- what the list program lends, with a heap of so many slots, and answer lists that hold something
 abbrev pub lists : Lists
 lists = record { ids = replicate 256 7; lengths = replicate 256 (nat 7) }
+
+abbrev pub with-heap : ℕ → Lent
+with-heap slots = record { node = 64; route = 65; heap = slots; coverage = 256; lists = lists }
+
+abbrev pub lent : Lent
+lent = with-heap 128
 
 abbrev pub zeroed : Lists
 zeroed = record { ids = replicate 256 0; lengths = replicate 256 f0 }
@@ -106,10 +109,10 @@ abbrev pub refusal : ℕ → ℕ → ℕ → Decoded
 refusal number a b = record { answer = refused number a b; lists = zeroed }
 
 pub record MarkedSet : Type 0 where
-  pub s1 : decode (two-points 25 75) areas lists ≡ record { answer = matched s1-match; lists = s1-lists }
-  pub s2 : decode (two-points 75 25) areas lists ≡ refusal 10 0 1
-  pub s3 : decode (sheet-bytes (one-road (first-point 1 ∷ []) (on-road 25 ∷ []))) areas lists ≡ refusal 10 0 0
-  pub s4 : decode (sheet-bytes (one-road [] [])) areas lists ≡ refusal 8 0 0
+  pub s1 : decode (two-points 25 75) lent ≡ record { answer = matched s1-match; lists = s1-lists }
+  pub s2 : decode (two-points 75 25) lent ≡ refusal 10 0 1
+  pub s3 : decode (sheet-bytes (one-road (first-point 1 ∷ []) (on-road 25 ∷ []))) lent ≡ refusal 10 0 0
+  pub s4 : decode (sheet-bytes (one-road [] [])) lent ≡ refusal 8 0 0
   pub s5 : (bearing-difference (nat 350) (nat 10) ≡ nat 20) × (bearing-difference (nat 0) (nat 180) ≡ nat 180)
   pub s6 : raised 2 6 ≡ 7
   pub s7 : (fraction (nat 120) (nat 100) ≡ f1) × (fraction (nat 120) f0 ≡ f0)

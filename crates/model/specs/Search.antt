@@ -158,9 +158,10 @@ begun q start = record {
 unfoldable pub search-within : ℕ → ℕ → ℕ → Query → ℕ → Found
 search-within steps turns slots q start = run steps turns slots q (begun q start)
 
--- A heap of `slots` entries. No node comes twice on the walk back, and no more entries are taken than made.
+-- A heap of `slots` entries; without one it is full at once, since the start's entry counts too. No node comes twice on the walk back, and no more entries are taken than made.
 unfoldable pub bounded-astar : ℕ → Query → ℕ → Found
-bounded-astar slots q start = search-within (q .nodes - 1) slots slots q start
+bounded-astar zero q start = full
+bounded-astar (suc k) q start = search-within (q .nodes - 1) (suc k) (suc k) q start
 
 -- a way of answering queries, from a start node
 abbrev pub Searcher : Type 0

@@ -13,7 +13,7 @@ use Rattle.model.specs.declared.Road.{Road}
 use Rattle.model.specs.Numbers.{f0}
 use Rattle.model.specs.Lists.{tab}
 use Rattle.model.specs.Bytes.{u8-at, u16-at, u32-at, u64-at, f64-at}
-use Rattle.model.specs.Layout.{settings-bytes, points-bytes, road-bytes, rows-bytes, distances-bytes, goal-width}
+use Rattle.model.specs.Layout.{counts-of, settings-bytes, points-bytes, road-bytes, rows-bytes, distances-bytes, goal-width}
 use Rattle.model.specs.Judge.{start-of, entry-of}
 
 -- A point with its measured rows.
@@ -103,6 +103,10 @@ sheet-of s c = record {
   from-last = tab (c .n) 0 (λ v. f64-at (distances-bytes s c) ((c .n + v) * 8));
   goals = tab (c .g) 0 (goal-of (distances-bytes s c) (c .n));
 }
+
+-- the sheet that a well-formed byte sequence holds
+abbrev pub parsed : List ℕ → Sheet
+parsed s = sheet-of s (counts-of s)
 
 -- ---- its roads
 
