@@ -9,20 +9,20 @@ use lib.ListN.{length}
 use mir.Syntax.{w64}
 use mir.Val.{Fits}
 use Rattle.model.specs.Table.{all-after, all-of}
-use Rattle.model.specs.Call.{Areas, Lists, most-entries, roomy}
+use Rattle.model.specs.Call.{Lent, most-entries, roomy}
 
 pub most-fits : {a b : ℕ} → a ≤ 20 → b ≤ 1025 → Fits w64 (a * b)
 most-fits h k = omega (arith, mul-le-mul h k)
 
-pub six-tests : (points nodes ids lengths : ℕ) (a : Areas) (l : Lists) (u v w x y z : Bool)
-    → u ≡ (true && leb nodes (a .node))
-    → v ≡ (u && leb (nodes + 1) (a .route))
-    → w ≡ (v && leb 1 (a .heap))
-    → x ≡ (w && leb (most-entries points nodes) (a .coverage))
+pub six-tests : (points nodes ids lengths : ℕ) (lent : Lent) (u v w x y z : Bool)
+    → u ≡ (true && leb nodes (lent .node))
+    → v ≡ (u && leb (nodes + 1) (lent .route))
+    → w ≡ (v && leb 1 (lent .heap))
+    → x ≡ (w && leb (most-entries points nodes) (lent .coverage))
     → y ≡ (x && leb (most-entries points nodes) ids)
     → z ≡ (y && leb (most-entries points nodes) lengths)
-    → length (l .ids) ≡ ids
-    → length (l .lengths) ≡ lengths
-    → z ≡ roomy points nodes a l
+    → length (lent .lists .ids) ≡ ids
+    → length (lent .lists .lengths) ≡ lengths
+    → z ≡ roomy points nodes lent
 unfolding roomy all-of all-after
-six-tests points nodes ids lengths a l u v w x y z e₁ e₂ e₃ e₄ e₅ e₆ i k = rw (i, k, e₆, e₅, e₄, e₃, e₂, e₁)
+six-tests points nodes ids lengths lent u v w x y z e₁ e₂ e₃ e₄ e₅ e₆ i k = rw (i, k, e₆, e₅, e₄, e₃, e₂, e₁)

@@ -2,15 +2,15 @@
 use Prim.Native.Nat.{ℕ}
 use mathlib.Core.List.{List}
 use lib.Ieee.{Float}
-use Rattle.model.specs.Call.{Areas, Lists, refused, matched, Decoded}
+use Rattle.model.specs.Call.{Lists, Lent, refused, matched, Decoded}
 use Rattle.model.specs.Call as call
 use Rattle.answers.specs.declared.Sizes.{Sizes}
 use Rattle.answers.specs.declared.Answer.{Answer}
 use Rattle.answers.specs.declared.Answer.the-variants as A
 
--- the areas of a call
-abbrev pub areas-of : Sizes → Areas
-areas-of a = record { node = a .node; route = a .route; heap = a .heap; coverage = a .coverage }
+-- what a call is lent: areas of these sizes, and the lists l
+abbrev pub lent-of : Sizes → Lists → Lent
+lent-of a l = record { node = a .node; route = a .route; heap = a .heap; coverage = a .coverage; lists = l }
 
 -- the answer lists of a call
 abbrev pub lists : List ℕ → List Float → Lists

@@ -11,7 +11,7 @@ ghost use Rattle.model.specs.Numbers.{f0};
 ghost use Rattle.model.specs.Judge.{WellFormed};
 ghost use Rattle.model.specs.Sheet.{sheet-of, road-at};
 ghost use Rattle.model.specs.Call.{Lists, written, roomy};
-ghost use Rattle.answers.specs.Room.{areas-of, lists};
+ghost use Rattle.answers.specs.Room.{lent-of, lists};
 
 // The sizes of the lent areas in entries, each the least of its slices', and of the answer lists.
 pub struct Sizes {
@@ -51,7 +51,7 @@ fn fits(before: bool, n: usize, size: usize) -> bool
 // Refusal 6 does not hold: every area and list is large enough for the sheet's counts.
 pub fn roomy(c: Counts, a: Sizes) -> bool
     requires { ⌜ (c .p ≤ 16) × (c .n ≤ 1024) ⌝ }
-    ensures { λ r. ⌜ ((l : Lists) → length (l .ids) ≡ a .ids → length (l .lengths) ≡ a .lengths → r ≡ roomy (c .p) (c .n) (areas-of a) l) ⌝ }
+    ensures { λ r. ⌜ ((l : Lists) → length (l .ids) ≡ a .ids → length (l .lengths) ≡ a .lengths → r ≡ roomy (c .p) (c .n) (lent-of a l)) ⌝ }
 {
     let more = c.n + 1;
     let most = (c.p + 4) * more;

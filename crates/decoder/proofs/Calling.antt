@@ -14,10 +14,10 @@ use Rattle.model.specs.Decode as outcomes
 use Rattle.model.specs.Call.{written, answered, untouched, decode}
 use Rattle.answers.specs.declared.Sizes.{Sizes}
 use Rattle.answers.specs.declared.Answer.the-variants as A
-use Rattle.answers.specs.Room.{areas-of, lists, answer-of, decoded}
+use Rattle.answers.specs.Room.{lent-of, lists, answer-of, decoded}
 use Rattle.decoder.specs.declared.Opened.{Opened}
 use Rattle.decoder.specs.declared.Opened.the-variants as O
-use Rattle.decoder.specs.Opened.{areas, Room, Opens}
+use Rattle.decoder.specs.Opened.{Slices, lent, Room, Opens}
 
 -- an answer's lists depend on the lists before by their lengths alone
 pub answered-as : (t : Sheet) (o : Outcome) (ids ids₁ : List ℕ) (lengths : List Float) → length ids₁ ≡ length ids → answered t (lists ids₁ lengths) o ≡ answered t (lists ids lengths) o
@@ -26,7 +26,7 @@ answered-as t (outcomes.refused n a b) ids ids₁ lengths e = rw e
 answered-as t (outcomes.matched k c) ids ids₁ lengths e = rw e
 
 module _ (s : List ℕ) (a : Sizes) (x : Opened) (opens : Opens s a x) (ids : List ℕ) (lengths : List Float) (ids-long : length ids ≡ a .ids) (lengths-long : length lengths ≡ a .lengths) where
-  pub call-refused : (n p : ℕ) → x ≡ O.Refused n p → decoded (A.Refused n p 0) ids lengths ≡ decode s (areas-of a) (lists ids lengths)
+  pub call-refused : (n p : ℕ) → x ≡ O.Refused n p → decoded (A.Refused n p 0) ids lengths ≡ decode s (lent-of a (lists ids lengths))
   unfolding Opens answer-of untouched
   call-refused n p is = sym ((rw is at opens) (lists ids lengths) (ids-long, lengths-long))
 
@@ -42,12 +42,11 @@ module _ (s : List ℕ) (a : Sizes) (x : Opened) (opens : Opens s a x) (ids : Li
     unfolding Opens
     call-room = opens-sheet .1
 
-    pub call-sheet : answered (sheet-of s c) (lists ids lengths) (outcome (view (sheet-of s c)) (bounded-astar (a .heap))) ≡ decode s (areas-of a) (lists ids lengths)
+    pub call-sheet : answered (sheet-of s c) (lists ids lengths) (outcome (view (sheet-of s c)) (bounded-astar (a .heap))) ≡ decode s (lent-of a (lists ids lengths))
     unfolding Opens
     call-sheet = sym (opens-sheet .2 (lists ids lengths) (ids-long, lengths-long))
 
 -- the areas by the least of their slices
-pub areas-are : (a : Sizes) (labels came-from route best-route entries links covered coverage : ℕ)
-    → a .node ≡ min (labels / 2) came-from → a .route ≡ min route best-route → a .heap ≡ min (entries / 2) (links / 2) → a .coverage ≡ min covered coverage
-    → areas-of a ≡ areas labels came-from route best-route entries links covered coverage
-areas-are a labels came-from route best-route entries links covered coverage n r h c = rw (n, r, h, c)
+pub lent-are : (a : Sizes) (x : Slices) → a .node ≡ min (x .labels / 2) (x .came-from) → a .route ≡ min (x .route) (x .best-route) → a .heap ≡ min (x .entries / 2) (x .links / 2) → a .coverage ≡ min (x .covered) (x .coverage)
+    → lent-of a (x .lists) ≡ lent x
+lent-are a x n r h c = rw (n, r, h, c)

@@ -9,19 +9,32 @@ use Rattle.model.specs.Sheet.{sheet-of}
 use Rattle.model.specs.View.{view}
 use Rattle.model.specs.Search.{bounded-astar}
 use Rattle.model.specs.Decode.{outcome}
-use Rattle.model.specs.Call.{Areas, Lists, answered, most-entries, untouched, decode}
+use Rattle.model.specs.Call.{Lists, Lent, answered, most-entries, untouched, decode}
 use Rattle.answers.specs.declared.Sizes.{Sizes}
-use Rattle.answers.specs.Room.{areas-of}
+use Rattle.answers.specs.Room.{lent-of}
 use Rattle.decoder.specs.declared.Opened.{Opened}
 use Rattle.decoder.specs.declared.Opened.the-variants as O
 
--- an area of several slices is as large as the least of them; some have two places for an entry
-abbrev pub areas : ℕ → ℕ → ℕ → ℕ → ℕ → ℕ → ℕ → ℕ → Areas
-areas labels came-from route best-route entries links covered coverage = record {
-  node = min (labels / 2) came-from;
-  route = min route best-route;
-  heap = min (entries / 2) (links / 2);
-  coverage = min covered coverage;
+-- what a call is lent, slice by slice: how many numbers each slice of a work area holds, and the answer lists
+pub record Slices : Type 0 where
+  pub labels : ℕ
+  pub came-from : ℕ
+  pub route : ℕ
+  pub best-route : ℕ
+  pub entries : ℕ
+  pub links : ℕ
+  pub covered : ℕ
+  pub coverage : ℕ
+  pub lists : Lists
+
+-- An area of several slices is as large as the least of them. An entry has two numbers in `labels`, `entries` and `links`.
+abbrev pub lent : Slices → Lent
+lent x = record {
+  node = min (x .labels / 2) (x .came-from);
+  route = min (x .route) (x .best-route);
+  heap = min (x .entries / 2) (x .links / 2);
+  coverage = min (x .covered) (x .coverage);
+  lists = x .lists;
 }
 
 -- there is room for a sheet with the counts c
@@ -39,5 +52,5 @@ Of-sizes a l = (length (l .ids) ≡ a .ids) × (length (l .lengths) ≡ a .lengt
 
 -- refusals 1 to 6, or on with a well-formed sheet that has room
 unfoldable pub Opens : List ℕ → Sizes → Opened → Type 0
-Opens s a (O.Refused n p) = (l : Lists) → Of-sizes a l → decode s (areas-of a) l ≡ untouched n p l
-Opens s a (O.Open c) = WellFormed s c × Room c a × ((l : Lists) → Of-sizes a l → decode s (areas-of a) l ≡ answered (sheet-of s c) l (outcome (view (sheet-of s c)) (bounded-astar (a .heap))))
+Opens s a (O.Refused n p) = (l : Lists) → Of-sizes a l → decode s (lent-of a l) ≡ untouched n p l
+Opens s a (O.Open c) = WellFormed s c × Room c a × ((l : Lists) → Of-sizes a l → decode s (lent-of a l) ≡ answered (sheet-of s c) l (outcome (view (sheet-of s c)) (bounded-astar (a .heap))))

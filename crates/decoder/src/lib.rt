@@ -16,7 +16,7 @@ ghost use Rattle.model.specs.Decode.{outcome};
 ghost use Rattle.model.specs.Call.{answered, most-entries, decode};
 ghost use Rattle.search.specs.Areas.{columns, Sized};
 ghost use Rattle.answers.specs.Room.{lists, decoded};
-ghost use Rattle.decoder.specs.Opened.{areas, Opens};
+ghost use Rattle.decoder.specs.Opened.{lent, Opens};
 
 // What refusals 1 to 6 say: refused with its number and A, or on with the counts of a well-formed sheet.
 pub enum Opened {
@@ -88,7 +88,7 @@ fn decode_sheet(
     finish::answer(s, c, set, out, covered, coverage, ids, lengths)
 }
 
-// One call, on any bytes and any areas. Refusals 1 to 6 leave both answer lists untouched; 7 to 11 zero them; a match zeroes the entries after the path. What stands in the work areas before has no part in the answer, and nothing is said of what stands there afterwards.
+// One call, on any bytes and any areas. Refusals 1 to 6 leave both answer lists untouched; 7 to 11 zero them; a match zeroes the entries after the path. What stands in the work areas before has no part in the answer. What stands there afterwards is the program's choice: their lengths stay, and no later call reads it before writing.
 pub fn decode(
     sheet: &[u8],
     labels: &mut [f64],
@@ -103,9 +103,17 @@ pub fn decode(
     lengths: &mut [f64],
 ) -> Answer
     ensures { λ r. ⌜ decoded r (now (ids .exit)) (now (lengths .exit))
-        ≡ decode (now (sheet .entry))
-        (areas (length (now (labels .entry))) (length (now («came_from» .entry))) (length (now (route .entry))) (length (now («best_route» .entry))) (length (now (entries .entry))) (length (now (links .entry))) (length (now (covered .entry))) (length (now (coverage .entry))))
-        (lists (now (ids .entry)) (now (lengths .entry))) ⌝ }
+        ≡ decode (now (sheet .entry)) (lent record {
+          labels = length (now (labels .entry));
+          came-from = length (now («came_from» .entry));
+          route = length (now (route .entry));
+          best-route = length (now («best_route» .entry));
+          entries = length (now (entries .entry));
+          links = length (now (links .entry));
+          covered = length (now (covered .entry));
+          coverage = length (now (coverage .entry));
+          lists = lists (now (ids .entry)) (now (lengths .entry));
+        }) ⌝ }
 {
     let nodes = least(labels.len() / 2, came_from.len());
     let routes = least(route.len(), best_route.len());

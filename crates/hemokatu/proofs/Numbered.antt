@@ -15,14 +15,14 @@ use Rattle.model.specs.Numbers.{_≤ᶠ_}
 use Rattle.model.specs.Lists.{maybe}
 use Rattle.model.specs.Layout.{counts-of, header-size, point-along-line}
 use Rattle.model.specs.Judge.{counts-good, offsets-good, fields-good, lists-good, rows-good, refuse, refuse-field, judged}
-use Rattle.model.specs.Sheet.{Sheet, sheet-of}
+use Rattle.model.specs.Sheet.{Sheet, parsed}
 use Rattle.model.specs.View.{Leg, View, view}
 use Rattle.model.specs.Search.{Searcher, bounded-astar}
 use Rattle.model.specs.Candidates.{Candidate, find-candidates, closest-point}
 use Rattle.model.specs.Legs.{Coverage, Route, Sought, best, no-path, heap-full}
 use Rattle.model.specs.Decode.{Course, Outcome, no-course, extended, course-of, primary-edge, with-primary, after-leg, decode-line, decode-point-along-line, decode-legs, first-empty, require-close-candidate, decode-points, outcome}
 use Rattle.model.specs.Decode as outcomes
-use Rattle.model.specs.Call.{Areas, Lists, Answer, refused, matched, answered, roomy, untouched, decode-by, decode-sheet, after-judging, decode}
+use Rattle.model.specs.Call.{Lists, Lent, Answer, refused, matched, answered, roomy, untouched, decode-by, decode-sheet, after-judging, decode}
 use Rattle.hemokatu.specs.Face.{In-table, NumberedTheorem}
 
 -- ---- the judge
@@ -122,21 +122,21 @@ unfolding answered
 answered-well t l (outcomes.refused n a b) h = h
 answered-well t l (outcomes.matched k c) h = tt
 
-sheet-well : (t : Sheet) (a : Areas) (l : Lists) → Answer-well (decode-sheet t a l .answer)
+sheet-well : (t : Sheet) (lent : Lent) → Answer-well (decode-sheet t lent .answer)
 unfolding decode-sheet decode-by untouched
-sheet-well t a l = go (roomy (length (t .stops)) (t .nodes) a l)
+sheet-well t lent = go (roomy (length (t .stops)) (t .nodes) lent)
   where
-    go : (b : Bool) → Answer-well (cond b (answered t l (outcome (view t) (bounded-astar (a .heap)))) (untouched 6 0 l) .answer)
-    go true = answered-well t l _ (outcome-well (view t) (bounded-astar (a .heap)))
+    go : (b : Bool) → Answer-well (cond b (answered t (lent .lists) (outcome (view t) (bounded-astar (lent .heap)))) (untouched 6 0 (lent .lists)) .answer)
+    go true = answered-well t (lent .lists) _ (outcome-well (view t) (bounded-astar (lent .heap)))
     go false = (omega arith, omega arith)
 
-call-well : (s : List ℕ) (a : Areas) (l : Lists) → Answer-well (decode s a l .answer)
+call-well : (s : List ℕ) (lent : Lent) → Answer-well (decode s lent .answer)
 unfolding decode after-judging untouched
-call-well s a l = go (judged s) (judged-well s)
+call-well s lent = go (judged s) (judged-well s)
   where
-    go : (j : Judged) → Judged-well j → Answer-well (after-judging j s l (λ t. decode-sheet t a l) .answer)
+    go : (j : Judged) → Judged-well j → Answer-well (after-judging j s (lent .lists) (λ t. decode-sheet t lent) .answer)
     go (Refused n at) h = h
-    go Fine h = sheet-well (sheet-of s (counts-of s)) a l
+    go Fine h = sheet-well (parsed s) lent
 
 pub numbered : NumberedTheorem
-numbered s a l n x y e = subst Answer-well e (call-well s a l)
+numbered s lent n x y e = subst Answer-well e (call-well s lent)

@@ -1,4 +1,4 @@
--- What a C host sees: the judge's verdict, the least sizes of the areas, and the answer, as numbers.
+-- What a C host sees: the version, the judge's verdict, the least sizes of the areas, and the answer, as numbers.
 use Prim.Native.Nat.{ℕ, _+_, _≤_}
 use mathlib.Core.Path.{_≡_}
 use mathlib.Core.Bool.{cond, _&&_}
@@ -9,11 +9,15 @@ use Rattle.model.specs.declared.Judged.{Judged}
 use Rattle.model.specs.declared.Judged.the-variants.{Fine, Refused}
 use Rattle.model.specs.Numbers.{f0}
 use Rattle.model.specs.Layout.{most-points, most-nodes}
-use Rattle.model.specs.Call.{Areas, Lists, Answer, refused, matched, Decoded, most-entries, decode}
+use Rattle.model.specs.Call.{Lent, Answer, refused, matched, Decoded, most-entries, decode}
 use Rattle.answers.specs.Room.{lists}
 use Rattle.hemokatu.specs.declared.Judgement.{Judgement}
 use Rattle.hemokatu.specs.declared.Sizes.{Sizes}
 use Rattle.hemokatu.specs.declared.Answered.{Answered}
+
+-- 0.2.0
+abbrev pub version : ℕ
+version = 200
 
 -- number 0 for a well-formed sheet
 unfoldable pub judgement-of : Judged → Judgement
@@ -64,4 +68,4 @@ abbrev pub In-table : ℕ → Type 0
 In-table n = (1 ≤ n) × (n ≤ 11)
 
 abbrev pub NumberedTheorem : Type 0
-NumberedTheorem = (s : List ℕ) (a : Areas) (l : Lists) (n x y : ℕ) → decode s a l .answer ≡ refused n x y → In-table n
+NumberedTheorem = (s : List ℕ) (lent : Lent) (n x y : ℕ) → decode s lent .answer ≡ refused n x y → In-table n

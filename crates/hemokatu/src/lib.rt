@@ -6,8 +6,19 @@ ghost use lib.ListN.{length};
 ghost use Rattle.model.specs.Judge.{judged};
 ghost use Rattle.model.specs.Call.{decode};
 ghost use Rattle.answers.specs.Room.{lists, answer-of};
-ghost use Rattle.decoder.specs.Opened.{areas};
-ghost use Rattle.hemokatu.specs.Face.{judgement-of, sizes-of, answered-of, Answers};
+ghost use Rattle.decoder.specs.Opened.{lent};
+ghost use Rattle.hemokatu.specs.Face.{version, judgement-of, sizes-of, answered-of, Answers};
+
+// 10000 major + 100 minor + patch: 0.2.0. The header and the crate in rust/ have the same.
+const VERSION: u32 = 200;
+
+// The version of the library.
+#[no_mangle]
+pub extern "C" fn hemokatu_version() -> u32
+    ensures { λ r. ⌜ r ≡ version ⌝ }
+{
+    VERSION
+}
 
 // A refusal's number and its place A; both 0 for a well-formed sheet.
 #[repr(C)]
@@ -118,7 +129,7 @@ fn face(answer: Answer) -> Answered
     }
 }
 
-// One call, on any bytes and any areas: the answer, and both answer lists afterwards. What stands in the work areas before has no part in either; what stands there afterwards is the program's choice, and no later call reads it before writing.
+// One call, on any bytes and any areas: the answer, and both answer lists afterwards. What stands in the work areas before has no part in either; what stands there afterwards is the program's choice: their lengths stay, and no later call reads it before writing.
 #[no_mangle]
 pub extern "C" fn hemokatu_decode(
     sheet: &[u8],
@@ -134,9 +145,17 @@ pub extern "C" fn hemokatu_decode(
     lengths: &mut [f64],
 ) -> Answered
     ensures { λ r. ⌜ Answers r (now (ids .exit)) (now (lengths .exit))
-        (decode (now (sheet .entry))
-        (areas (length (now (labels .entry))) (length (now («came_from» .entry))) (length (now (route .entry))) (length (now («best_route» .entry))) (length (now (entries .entry))) (length (now (links .entry))) (length (now (covered .entry))) (length (now (coverage .entry))))
-        (lists (now (ids .entry)) (now (lengths .entry)))) ⌝ }
+        (decode (now (sheet .entry)) (lent record {
+          labels = length (now (labels .entry));
+          came-from = length (now («came_from» .entry));
+          route = length (now (route .entry));
+          best-route = length (now («best_route» .entry));
+          entries = length (now (entries .entry));
+          links = length (now (links .entry));
+          covered = length (now (covered .entry));
+          coverage = length (now (coverage .entry));
+          lists = lists (now (ids .entry)) (now (lengths .entry));
+        })) ⌝ }
 {
     let found = decoder::decode(
         sheet,

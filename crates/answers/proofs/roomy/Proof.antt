@@ -1,3 +1,4 @@
+use Rattle.answers.specs.Room.{lent-of}
 use Rattle.answers.proofs.Refusal.{most-fits, six-tests}
 use native.Mathlib.Omega.{arith}
 use borrow.Author.Needs.{needs}
@@ -32,7 +33,7 @@ fits-requires-6 : tie.Need-fits-requires-6
 fits-requires-6 c κs = search needs
 
 returns : tie.Need-returns
-returns c = λ l. six-tests _ _ _ _ _ l _ _ _ _ _ _ (c .before .before .before .before .before .fits2 .ensures) (c .before .before .before .before .fits3 .ensures) (c .before .before .before .fits4 .ensures) (c .before .before .fits5 .ensures) (c .before .fits6 .ensures) (c .fits7 .ensures)
+returns c = λ l. six-tests _ _ _ _ (lent-of (c .before .before .before .before .before .before .before .before .args .a) l) _ _ _ _ _ _ (c .before .before .before .before .before .fits2 .ensures) (c .before .before .before .before .fits3 .ensures) (c .before .before .before .fits4 .ensures) (c .before .before .fits5 .ensures) (c .before .fits6 .ensures) (c .fits7 .ensures)
 
 pub roomy-spec : {M : Type 1} → statement M
 roomy-spec =

@@ -1,7 +1,8 @@
-use Rattle.decoder.proofs.Calling.{call-refused, call-formed, call-room, call-sheet, areas-are}
+use Rattle.decoder.proofs.Calling.{call-refused, call-formed, call-room, call-sheet, lent-are}
 use Rattle.answers.specs.Room.{lists}
 use Rattle.answers.specs.declared.Sizes.{Sizes}
-use Rattle.model.specs.Call.{Areas, decode}
+use Rattle.model.specs.Call.{decode}
+use Rattle.decoder.specs.Opened.{Slices}
 use lib.ListN.{length}
 use Rattle.search.proofs.Halves.{areas-sized}
 use native.Mathlib.Omega.{arith}
@@ -59,8 +60,9 @@ decode-sheet-requires c κs = let a = c .before .before .before .before .before 
 returns : tie.Need-returns
 returns c = let a = c .before .before .before .before .before .before .before .before .before .before .before .before .before .before .before .before .before .before .before .args in
     let z : Sizes = record { node = c .before .before .before .before .before .before .before .least .result; route = c .before .before .before .before .before .before .least2 .result; heap = c .before .before .before .before .before .least3 .result; coverage = c .before .before .before .before .least4 .result; ids = length (a .ids .now); lengths = length (a .lengths .now) } in
+    let x : Slices = record { labels = length (a .labels .now); came-from = length (a .came-from .now); route = length (a .route .now); best-route = length (a .best-route .now); entries = length (a .entries .now); links = length (a .links .now); covered = length (a .covered .now); coverage = length (a .coverage .now); lists = lists (a .ids .now) (a .lengths .now) } in
     call-refused (a .sheet .now) z (c .before .before .before .open-sheet .result) (c .before .before .before .open-sheet .ensures) (a .ids .now) (a .lengths .now) refl refl _ _ (c .before .opened .given .1)
-    ∙ ap (λ (x : Areas). decode (a .sheet .now) x (lists (a .ids .now) (a .lengths .now))) (areas-are z _ _ _ _ _ _ _ _ (c .before .before .before .before .before .before .before .least .ensures) (c .before .before .before .before .before .before .least2 .ensures) (c .before .before .before .before .before .least3 .ensures) (c .before .before .before .before .least4 .ensures))
+    ∙ ap (decode (a .sheet .now)) (lent-are z x (c .before .before .before .before .before .before .before .least .ensures) (c .before .before .before .before .before .before .least2 .ensures) (c .before .before .before .before .before .least3 .ensures) (c .before .before .before .before .least4 .ensures))
 
 same-length : tie.Need-same-length
 same-length c = c .before .before .before .before .before .before .before .before .before .before .before .before .before .before .before .before .before .before .before .before .decode-sheet .kept .1 .1 .1 .0
@@ -95,9 +97,10 @@ same-length-10 c = c .before .before .before .before .before .before .before .be
 returns-2 : tie.Need-returns-2
 returns-2 c = let a = c .before .before .before .before .before .before .before .before .before .before .before .before .before .before .before .before .before .before .before .before .before .before .before .before .before .before .before .before .before .before .before .before .before .before .before .before .before .before .before .before .before .before .before .before .before .before .before .before .before .before .args in
     let z : Sizes = record { node = c .before .before .before .before .before .before .before .before .before .before .before .before .before .before .before .before .before .before .before .before .before .before .before .before .before .before .before .before .before .before .before .before .before .before .before .before .before .before .least .result; route = c .before .before .before .before .before .before .before .before .before .before .before .before .before .before .before .before .before .before .before .before .before .before .before .before .before .before .before .before .before .before .before .before .before .before .before .before .before .least2 .result; heap = c .before .before .before .before .before .before .before .before .before .before .before .before .before .before .before .before .before .before .before .before .before .before .before .before .before .before .before .before .before .before .before .before .before .before .before .before .least3 .result; coverage = c .before .before .before .before .before .before .before .before .before .before .before .before .before .before .before .before .before .before .before .before .before .before .before .before .before .before .before .before .before .before .before .before .before .before .before .least4 .result; ids = length (a .ids .now); lengths = length (a .lengths .now) } in
+    let x : Slices = record { labels = length (a .labels .now); came-from = length (a .came-from .now); route = length (a .route .now); best-route = length (a .best-route .now); entries = length (a .entries .now); links = length (a .links .now); covered = length (a .covered .now); coverage = length (a .coverage .now); lists = lists (a .ids .now) (a .lengths .now) } in
     c .before .before .before .before .before .before .before .before .before .before .before .before .before .before .before .before .before .before .before .before .decode-sheet .ensures
     ∙ call-sheet (a .sheet .now) z (c .before .before .before .before .before .before .before .before .before .before .before .before .before .before .before .before .before .before .before .before .before .before .before .before .before .before .before .before .before .before .before .before .before .before .open-sheet .result) (c .before .before .before .before .before .before .before .before .before .before .before .before .before .before .before .before .before .before .before .before .before .before .before .before .before .before .before .before .before .before .before .before .before .before .open-sheet .ensures) (a .ids .now) (a .lengths .now) refl refl _ (c .before .before .before .before .before .before .before .before .before .before .before .before .before .before .before .before .before .before .before .before .before .before .before .before .before .before .before .before .before .before .before .before .opened2 .given .1)
-    ∙ ap (λ (x : Areas). decode (a .sheet .now) x (lists (a .ids .now) (a .lengths .now))) (areas-are z _ _ _ _ _ _ _ _ (c .before .before .before .before .before .before .before .before .before .before .before .before .before .before .before .before .before .before .before .before .before .before .before .before .before .before .before .before .before .before .before .before .before .before .before .before .before .before .least .ensures) (c .before .before .before .before .before .before .before .before .before .before .before .before .before .before .before .before .before .before .before .before .before .before .before .before .before .before .before .before .before .before .before .before .before .before .before .before .before .least2 .ensures) (c .before .before .before .before .before .before .before .before .before .before .before .before .before .before .before .before .before .before .before .before .before .before .before .before .before .before .before .before .before .before .before .before .before .before .before .before .least3 .ensures) (c .before .before .before .before .before .before .before .before .before .before .before .before .before .before .before .before .before .before .before .before .before .before .before .before .before .before .before .before .before .before .before .before .before .before .before .least4 .ensures))
+    ∙ ap (decode (a .sheet .now)) (lent-are z x (c .before .before .before .before .before .before .before .before .before .before .before .before .before .before .before .before .before .before .before .before .before .before .before .before .before .before .before .before .before .before .before .before .before .before .before .before .before .before .least .ensures) (c .before .before .before .before .before .before .before .before .before .before .before .before .before .before .before .before .before .before .before .before .before .before .before .before .before .before .before .before .before .before .before .before .before .before .before .before .before .least2 .ensures) (c .before .before .before .before .before .before .before .before .before .before .before .before .before .before .before .before .before .before .before .before .before .before .before .before .before .before .before .before .before .before .before .before .before .before .before .before .least3 .ensures) (c .before .before .before .before .before .before .before .before .before .before .before .before .before .before .before .before .before .before .before .before .before .before .before .before .before .before .before .before .before .before .before .before .before .before .before .least4 .ensures))
 
 pub decode-spec : {M : Type 1} → statement M
 decode-spec =
