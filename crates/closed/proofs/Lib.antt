@@ -1,3 +1,4 @@
+pub mod Likeness
 pub mod SharpProof
 pub mod AlikeSheets
 pub mod AlikeBytes
