@@ -1,27 +1,77 @@
 -- Each condition of demand 3 is needed, by computing.
-use mathlib.Core.Path.{refl}
+use mathlib.Core.Path.{_≡_, refl}
 use mathlib.Core.List.{[], _∷_}
-use Rattle.model.proofs.Computes.{computes}
-use Rattle.model.specs.Candidates.{same-bytes}
-use Rattle.closed.specs.Closed.{exceeds, beyond-every-limit, named, is-closed, core, no-zero-length}
-use Rattle.closed.specs.Sharp.{slip-too, named-too, beyond-one-limit, beyond-limits-given, beyond-bare-limits, no-bridge, bridge, two-bridges, two-legs-gap, two-legs-bridge, class-limit-7, no-class-limit, named-road, twins, alone, longer, looped, Sharp}
-use Rattle.closed.proofs.Likeness.{agree-at, agree, equal-parts, order, alike-by, any-numbers}
+use Rattle.model.specs.declared.Judged.the-variants.{Fine}
+use Rattle.model.specs.Numbers.{nat}
+use Rattle.model.specs.Judge.{judged}
+use Rattle.closed.specs.Closed.{is-closed, AlikeBy, Alike, refusal, match}
+use Rattle.closed.specs.Sharp.{slip-too, named-too, beyond-one-limit, beyond-limits-given, beyond-bare-limits, AnyOrder, AnyBytes, AnyNumbers, SnappingOff, NoZeroLength, core-of, path-count, Answered, no-bridge, bridge, two-bridges, two-legs-gap, two-legs-bridge, class-limit-7, no-class-limit, named-road, twins, alone, longer, looped, over, Sharp, SharpWhole}
+use Rattle.closed.proofs.Likeness.{alike-by, any-order, any-bytes, any-numbers, computes-likeness}
+
+closed : Answered core-of Alike no-bridge (bridge 6 3) (refusal 10 0 1) (refusal 10 0 1)
+unfolding computes-likeness
+closed = record { fine = (refl, refl); like = alike-by no-bridge (bridge 6 3) tt is-closed tt tt tt; answers = (refl, refl) }
+
+slip : Answered core-of (AlikeBy slip-too) no-bridge (bridge 6 6) (refusal 10 0 1) (over 80 702)
+unfolding computes-likeness
+slip = record { fine = (refl, refl); like = alike-by no-bridge (bridge 6 6) tt slip-too tt tt tt; answers = (refl, refl) }
+
+tolerance : Answered core-of (AlikeBy beyond-bare-limits) no-bridge (bridge 5 3) (refusal 10 0 1) (over 80 702)
+unfolding computes-likeness
+tolerance = record { fine = (refl, refl); like = alike-by no-bridge (bridge 5 3) tt beyond-bare-limits tt tt tt; answers = (refl, refl) }
+
+every-leg : Answered core-of (AlikeBy beyond-one-limit) (two-legs-gap class-limit-7) (two-legs-bridge class-limit-7) (refusal 10 1 2) (over 90 702)
+unfolding computes-likeness
+every-leg = record { fine = (refl, refl); like = alike-by (two-legs-gap class-limit-7) (two-legs-bridge class-limit-7) tt beyond-one-limit tt tt tt; answers = (refl, refl) }
+
+no-limit : Answered core-of (AlikeBy beyond-limits-given) (two-legs-gap no-class-limit) (two-legs-bridge no-class-limit) (refusal 10 1 2) (over 90 702)
+unfolding computes-likeness
+no-limit = record { fine = (refl, refl); like = alike-by (two-legs-gap no-class-limit) (two-legs-bridge no-class-limit) tt beyond-limits-given tt tt tt; answers = (refl, refl) }
+
+named : Answered core-of (AlikeBy named-too) (named-road 6) (named-road 7) (refusal 10 0 1) (refusal 9 0 0)
+unfolding computes-likeness
+named = record { fine = (refl, refl); like = alike-by (named-road 6) (named-road 7) tt named-too tt tt tt; answers = (refl, refl) }
+
+order : Answered core-of AnyOrder (two-bridges 702 703 2 3) (two-bridges 702 703 3 2) (over 80 702) (over 80 703)
+unfolding computes-likeness
+order = record { fine = (refl, refl); like = any-order (two-bridges 702 703 2 3) (two-bridges 702 703 3 2) tt tt tt; answers = (refl, refl) }
+
+bytes : Answered core-of AnyBytes (two-bridges 702 703 2 3) (two-bridges 704 703 2 3) (over 80 702) (over 80 704)
+unfolding computes-likeness
+bytes = record { fine = (refl, refl); like = any-bytes (two-bridges 702 703 2 3) (two-bridges 704 703 2 3) tt tt; answers = (refl, refl) }
+
+numbers : Answered core-of AnyNumbers (twins 700 701 (0 ∷ 1 ∷ [])) (twins 701 700 (1 ∷ 0 ∷ [])) (match (nat 20) 700 (nat 20)) (match (nat 20) 701 (nat 20))
+unfolding computes-likeness
+numbers = record { fine = (refl, refl); like = any-numbers (twins 700 701 (0 ∷ 1 ∷ [])) (twins 701 700 (1 ∷ 0 ∷ [])) tt refl; answers = (refl, refl) }
+
+well-formed : (judged no-bridge ≡ Fine) × Alike no-bridge (bridge 8 3) × (core-of no-bridge ≡ refusal 10 0 1) × (core-of (bridge 8 3) ≡ refusal 4 304 0)
+unfolding computes-likeness
+well-formed = (refl, alike-by no-bridge (bridge 8 3) tt is-closed tt tt tt, refl, refl)
 
 pub sharp : Sharp
-unfolding computes exceeds beyond-every-limit named is-closed core no-zero-length agree-at
-sharp = record {
-  closed = record { fine = (refl, refl); like = alike-by no-bridge (bridge 6 3) refl is-closed tt tt refl; answers = (refl, refl) };
-  slip = record { fine = (refl, refl); like = alike-by no-bridge (bridge 6 6) refl slip-too tt tt refl; answers = (refl, refl) };
-  tolerance = record { fine = (refl, refl); like = alike-by no-bridge (bridge 5 3) refl beyond-bare-limits tt tt refl; answers = (refl, refl) };
-  every-leg = record { fine = (refl, refl); like = alike-by (two-legs-gap class-limit-7) (two-legs-bridge class-limit-7) refl beyond-one-limit tt tt refl; answers = (refl, refl) };
-  no-limit = record { fine = (refl, refl); like = alike-by (two-legs-gap no-class-limit) (two-legs-bridge no-class-limit) refl beyond-limits-given tt tt refl; answers = (refl, refl) };
-  named = record { fine = (refl, refl); like = alike-by (named-road 6) (named-road 7) refl named-too tt tt refl; answers = (refl, refl) };
-  order = record { fine = (refl, refl); like = (equal-parts (two-bridges 702 703 2 3) (two-bridges 702 703 3 2) refl, agree is-closed (two-bridges 702 703 2 3) (two-bridges 702 703 3 2) tt, agree is-closed (two-bridges 702 703 3 2) (two-bridges 702 703 2 3) tt); answers = (refl, refl) };
-  bytes = record { fine = (refl, refl); like = (equal-parts (two-bridges 702 703 2 3) (two-bridges 704 703 2 3) refl, order (two-bridges 702 703 2 3) (two-bridges 704 703 2 3) refl is-closed refl); answers = (refl, refl) };
-  numbers = record { fine = (refl, refl); like = any-numbers (twins 700 701 (0 ∷ 1 ∷ [])) (twins 701 700 (1 ∷ 0 ∷ [])) refl refl; answers = (refl, refl) };
-  snapping = record { fine = (refl, refl); like = (alike-by (alone 1) (longer 1 6 20) refl is-closed tt tt refl, refl, refl); answers = (refl, refl) };
-  zero-there = record { fine = (refl, refl); like = (alike-by (alone 0) (longer 0 6 0) refl is-closed tt tt refl, refl, refl); answers = (refl, refl) };
-  zero-here = record { fine = (refl, refl); like = (alike-by (longer 0 6 0) (alone 0) refl is-closed tt tt refl, refl, refl); answers = (refl, refl) };
-  zero-both = record { fine = (refl, refl); like = (alike-by (longer 0 3 0) looped refl is-closed tt tt refl, refl); answers = (refl, refl) };
-  neither = record { fine = (refl, refl); like = (alike-by (alone 0) (longer 0 6 20) refl is-closed tt tt refl, refl, refl, refl); answers = (refl, refl) };
-}
+sharp = record { closed = closed; slip = slip; tolerance = tolerance; every-leg = every-leg; no-limit = no-limit; named = named; order = order; bytes = bytes; numbers = numbers; well-formed = well-formed }
+
+-- ---- the whole answer
+
+snapping : Answered path-count (λ x y. Alike x y × NoZeroLength x × NoZeroLength y) (alone 1) (longer 1 6 20) 1 2
+unfolding computes-likeness
+snapping = record { fine = (refl, refl); like = (alike-by (alone 1) (longer 1 6 20) tt is-closed tt tt tt, refl, refl); answers = (refl, refl) }
+
+zero-there : Answered path-count (λ x y. Alike x y × SnappingOff x × NoZeroLength x) (alone 0) (longer 0 6 0) 1 2
+unfolding computes-likeness
+zero-there = record { fine = (refl, refl); like = (alike-by (alone 0) (longer 0 6 0) tt is-closed tt tt tt, refl, refl); answers = (refl, refl) }
+
+zero-here : Answered path-count (λ x y. Alike x y × SnappingOff x × NoZeroLength y) (longer 0 6 0) (alone 0) 2 1
+unfolding computes-likeness
+zero-here = record { fine = (refl, refl); like = (alike-by (longer 0 6 0) (alone 0) tt is-closed tt tt tt, refl, refl); answers = (refl, refl) }
+
+zero-both : Answered path-count (λ x y. Alike x y × SnappingOff x) (longer 0 3 0) looped 2 1
+unfolding computes-likeness
+zero-both = record { fine = (refl, refl); like = (alike-by (longer 0 3 0) looped tt is-closed tt tt tt, refl); answers = (refl, refl) }
+
+neither : Answered path-count (λ x y. Alike x y × SnappingOff x × NoZeroLength x × NoZeroLength y) (alone 0) (longer 0 6 20) 1 1
+unfolding computes-likeness
+neither = record { fine = (refl, refl); like = (alike-by (alone 0) (longer 0 6 20) tt is-closed tt tt tt, refl, refl, refl); answers = (refl, refl) }
+
+pub sharp-whole : SharpWhole
+sharp-whole = record { snapping = snapping; zero-there = zero-there; zero-here = zero-here; zero-both = zero-both; neither = neither }

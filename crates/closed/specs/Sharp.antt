@@ -1,4 +1,5 @@
--- Each condition of demand 3 is needed: two well-formed sheets that meet all others and are answered differently. proofs/SharpProof.antt has the proofs, by computing.
+-- Each condition of demand 3 is needed: two well-formed sheets that meet all others and are answered differently.
+-- Here are the conditions on roads and those for the whole answer; specs/SharpParts.antt has the equal parts. proofs/SharpProof.antt has the proofs, by computing.
 use Prim.Native.Nat.{ℕ}
 use mathlib.Core.Path.{_≡_}
 use mathlib.Core.Bool.{true, false, not, _&&_, _||_}
@@ -65,15 +66,21 @@ NoZeroLength x = no-zero-length (parsed x) ≡ true
 
 -- ---- what is answered
 
-abbrev pub path-count : Answer → ℕ
-path-count (refused number a b) = 0
-path-count (matched m) = m .count
+abbrev pub core-of : List ℕ → Core
+core-of s = core (decode s lent .answer)
 
--- Two well-formed sheets, alike in some sense, and a part of each answer.
-pub record Answered {A : Type 0} (part : Answer → A) (Like : List ℕ → List ℕ → Type 0) (x y : List ℕ) (a b : A) : Type 0 where
+abbrev pub count-of : Answer → ℕ
+count-of (refused number a b) = 0
+count-of (matched m) = m .count
+
+abbrev pub path-count : List ℕ → ℕ
+path-count s = count-of (decode s lent .answer)
+
+-- Two well-formed sheets, alike in some sense, and something of the answer to each.
+pub record Answered {A : Type 0} (answer : List ℕ → A) (Like : List ℕ → List ℕ → Type 0) (x y : List ℕ) (a b : A) : Type 0 where
   pub fine : (judged x ≡ Fine) × (judged y ≡ Fine)
   pub like : Like x y
-  pub answers : (part (decode x lent .answer) ≡ a) × (part (decode y lent .answer) ≡ b)
+  pub answers : (answer x ≡ a) × (answer y ≡ b)
 
 -- ---- the sheets
 
@@ -173,7 +180,7 @@ twins id other numbers = sheet-bytes record {
   goals = goal 0 (0 ∷ 0 ∷ []) ∷ [];
 }
 
--- S1 with two more nodes, of which the last point is nearer to the second, and these roads
+-- S1 with these roads and a third node, to which the last point is nearer than to S1's end
 abbrev pub with-roads : ℕ → List (List ℕ) → List ℕ → List ℕ → List ℕ
 with-roads snap more starts numbers = sheet-bytes record {
   kind = 1;
@@ -207,29 +214,34 @@ over metres id = match (nat metres) id (nat 40)
 
 pub record Sharp : Type 0 where
   -- a closed road is no way: class 6 exceeds limit 3 and tolerance 2
-  pub closed : Answered core Alike no-bridge (bridge 6 3) (refusal 10 0 1) (refusal 10 0 1)
+  pub closed : Answered core-of Alike no-bridge (bridge 6 3) (refusal 10 0 1) (refusal 10 0 1)
   -- a slip road of that class is not closed
-  pub slip : Answered core (AlikeBy slip-too) no-bridge (bridge 6 6) (refusal 10 0 1) (over 80 702)
+  pub slip : Answered core-of (AlikeBy slip-too) no-bridge (bridge 6 6) (refusal 10 0 1) (over 80 702)
   -- nor is a road within limit and tolerance
-  pub tolerance : Answered core (AlikeBy beyond-bare-limits) no-bridge (bridge 5 3) (refusal 10 0 1) (over 80 702)
+  pub tolerance : Answered core-of (AlikeBy beyond-bare-limits) no-bridge (bridge 5 3) (refusal 10 0 1) (over 80 702)
   -- nor one whose class number one leg's limit admits
-  pub every-leg : Answered core (AlikeBy beyond-one-limit) (two-legs-gap class-limit-7) (two-legs-bridge class-limit-7) (refusal 10 1 2) (over 90 702)
+  pub every-leg : Answered core-of (AlikeBy beyond-one-limit) (two-legs-gap class-limit-7) (two-legs-bridge class-limit-7) (refusal 10 1 2) (over 90 702)
   -- nor any road where a leg has no class limit
-  pub no-limit : Answered core (AlikeBy beyond-limits-given) (two-legs-gap no-class-limit) (two-legs-bridge no-class-limit) (refusal 10 1 2) (over 90 702)
+  pub no-limit : Answered core-of (AlikeBy beyond-limits-given) (two-legs-gap no-class-limit) (two-legs-bridge no-class-limit) (refusal 10 1 2) (over 90 702)
   -- nor one that a projection names: its class decides whether it is a candidate
-  pub named : Answered core (AlikeBy named-too) (named-road 6) (named-road 7) (refusal 10 0 1) (refusal 9 0 0)
+  pub named : Answered core-of (AlikeBy named-too) (named-road 6) (named-road 7) (refusal 10 0 1) (refusal 9 0 0)
   -- of two ways of equal length the first in the list is taken
-  pub order : Answered core AnyOrder (two-bridges 702 703 2 3) (two-bridges 702 703 3 2) (over 80 702) (over 80 703)
+  pub order : Answered core-of AnyOrder (two-bridges 702 703 2 3) (two-bridges 702 703 3 2) (over 80 702) (over 80 703)
   -- the bytes of a road hold its id, among other things
-  pub bytes : Answered core AnyBytes (two-bridges 702 703 2 3) (two-bridges 704 703 2 3) (over 80 702) (over 80 704)
+  pub bytes : Answered core-of AnyBytes (two-bridges 702 703 2 3) (two-bridges 704 703 2 3) (over 80 702) (over 80 704)
   -- of two candidates of equal score the lower road number is taken
-  pub numbers : Answered core AnyNumbers (twins 700 701 (0 ∷ 1 ∷ [])) (twins 701 700 (1 ∷ 0 ∷ [])) (match (nat 20) 700 (nat 20)) (match (nat 20) 701 (nat 20))
+  pub numbers : Answered core-of AnyNumbers (twins 700 701 (0 ∷ 1 ∷ [])) (twins 701 700 (1 ∷ 0 ∷ [])) (match (nat 20) 700 (nat 20)) (match (nat 20) 701 (nat 20))
+  -- a sheet that is not well-formed is refused: here the closed road's FRC is 8
+  pub well-formed : (judged no-bridge ≡ Fine) × Alike no-bridge (bridge 8 3) × (core-of no-bridge ≡ refusal 10 0 1) × (core-of (bridge 8 3) ≡ refusal 4 304 0)
+
+-- The conditions for the whole answer.
+pub record SharpWhole : Type 0 where
   -- with snapping on a closed road lengthens the path
   pub snapping : Answered path-count (λ x y. Alike x y × NoZeroLength x × NoZeroLength y) (alone 1) (longer 1 6 20) 1 2
   -- with snapping off, too, where it has length 0 on one of the sheets
   pub zero-there : Answered path-count (λ x y. Alike x y × SnappingOff x × NoZeroLength x) (alone 0) (longer 0 6 0) 1 2
   pub zero-here : Answered path-count (λ x y. Alike x y × SnappingOff x × NoZeroLength y) (longer 0 6 0) (alone 0) 2 1
-  -- and where an open road has length 0 on both, a closed one of any length shortens it
+  -- and where an open road has length 0 on both, a closed one of another length shortens it
   pub zero-both : Answered path-count (λ x y. Alike x y × SnappingOff x) (longer 0 3 0) looped 2 1
   -- where neither is so, it does not
   pub neither : Answered path-count (λ x y. Alike x y × SnappingOff x × NoZeroLength x × NoZeroLength y) (alone 0) (longer 0 6 20) 1 1
