@@ -212,6 +212,7 @@ looped = with-roads 0 (road 701 0 1 2 3 3 0 ∷ road 702 40 1 1 6 3 0 ∷ []) (0
 abbrev pub over : ℕ → ℕ → Core
 over metres id = match (nat metres) id (nat 40)
 
+-- The conditions on roads, and well-formedness. Refusal 10 stands for no way over the gap.
 pub record Sharp : Type 0 where
   -- a closed road is no way: class 6 exceeds limit 3 and tolerance 2
   pub closed : Answered core-of Alike no-bridge (bridge 6 3) (refusal 10 0 1) (refusal 10 0 1)
