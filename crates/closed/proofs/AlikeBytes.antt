@@ -13,8 +13,8 @@ use Rattle.model.specs.Layout.{counts-of, points-at, distances-at, goal-width, 
 use Rattle.model.specs.Judge.{WellFormed}
 use Rattle.model.specs.Sheet.{settings-of, stop-of, road-of, goal-of, sheet-of, parsed, no-road, road-at}
 use Rattle.model.proofs.Members.{length-tab, getD-table}
-use Rattle.closed.specs.Closed.{Agree, Alike}
-use Rattle.closed.proofs.AlikeSheets.{AgreeSheets, AlikeSheets}
+use Rattle.closed.specs.Closed.{is-closed, Agree, Alike}
+use Rattle.closed.proofs.AlikeSheets.{is-open, AgreeSheets, AlikeSheets}
 
 -- ---- one sheet
 
@@ -34,7 +34,7 @@ module _ (s : List ℕ) where
 
 -- ---- two sheets
 
-roads-agree : (x y : List ℕ) → Agree x y → AgreeSheets (parsed x) (parsed y)
+roads-agree : (x y : List ℕ) → Agree is-closed x y → AgreeSheets (parsed x) (parsed y)
 roads-agree x y h i m o =
     let below : i < counts-of x .e = omega (arith, roads-count x) in
     let k = h i below o in
@@ -46,29 +46,29 @@ module _ (x y : List ℕ) (wx : WellFormed x (counts-of x)) (wy : WellFormed y (
   points-eq =
       let e : counts-of x .p * 24 ≡ counts-of y .p * 24 =
       sym (section-length points-at (counts-of x .p * 24) x (omega (arith, wx .sound .whole)))
-      ∙ ap length (h .points) ∙ section-length points-at (counts-of y .p * 24) y (omega (arith, wy .sound .whole)) in
+      ∙ ap length (h .parts .points) ∙ section-length points-at (counts-of y .p * 24) y (omega (arith, wy .sound .whole)) in
       omega arith
 
   goals-eq : counts-of x .g ≡ counts-of y .g
   goals-eq =
       let e : size (counts-of x) ≡ size (counts-of y) =
       sym (section-length (distances-at (counts-of x)) (size (counts-of x)) x (omega (arith, wx .sound .whole)))
-      ∙ ap length (h .distances) ∙ section-length (distances-at (counts-of y)) (size (counts-of y)) y (omega (arith, wy .sound .whole)) in
+      ∙ ap length (h .parts .distances) ∙ section-length (distances-at (counts-of y)) (size (counts-of y)) y (omega (arith, wy .sound .whole)) in
       let n : ℕ = counts-of y .n in
-      let f : (n + n) * 8 + counts-of x .g * goal-width n ≡ (n + n) * 8 + counts-of y .g * goal-width n = sym (ap (λ (n : ℕ). (n + n) * 8 + counts-of x .g * goal-width n) (h .nodes)) ∙ e in
+      let f : (n + n) * 8 + counts-of x .g * goal-width n ≡ (n + n) * 8 + counts-of y .g * goal-width n = sym (ap (λ (n : ℕ). (n + n) * 8 + counts-of x .g * goal-width n) (h .parts .nodes)) ∙ e in
       eq-of-mul-eq-mul-right (goal-width n) (omega arith) (counts-of x .g) (counts-of y .g) (omega arith)
     where
       size : Counts → ℕ
       size c = (c .n + c .n) * 8 + c .g * goal-width (c .n)
 
   pub alike-sheets : AlikeSheets (parsed x) (parsed y)
-  unfolding sheet-of
+  unfolding sheet-of is-open
   alike-sheets = record {
-    kind = h .kind;
-    nodes = h .nodes;
-    settings = ap settings-of (h .settings);
-    stops = λ i. tab (points-eq i) 0 (stop-of (h .points i) (h .rows i));
-    goals = λ i. tab (goals-eq i) 0 (goal-of (h .distances i) (h .nodes i));
+    kind = h .parts .kind;
+    nodes = h .parts .nodes;
+    settings = ap settings-of (h .parts .settings);
+    stops = λ i. tab (points-eq i) 0 (stop-of (h .parts .points i) (h .parts .rows i));
+    goals = λ i. tab (goals-eq i) 0 (goal-of (h .parts .distances i) (h .parts .nodes i));
     agree = roads-agree x y (h .agree);
     order = h .order;
   }

@@ -28,9 +28,12 @@ use Rattle.model.proofs.Members.{all-at, any-of, keep-keep, in-keep, map-eq, ke
 use Rattle.model.proofs.Judging.{all-of-at}
 use Rattle.bounds.specs.Formed.{Formed}
 use Rattle.bounds.proofs.CourseRoads.{course-roads}
-use Rattle.closed.specs.Closed.{exceeds, named, is-closed, is-open, Core, refusal, match, core}
+use Rattle.closed.specs.Closed.{exceeds, beyond-limit, beyond-every-limit, named, is-closed, Core, refusal, match, core}
 
 -- ---- alike sheets
+
+unfoldable pub is-open : Sheet → ℕ → Bool
+is-open t i = not (is-closed t i)
 
 -- Every road of a that is not closed there is the same on b.
 abbrev pub AgreeSheets : Sheet → Sheet → Type 0
@@ -77,8 +80,8 @@ module _ (t : Sheet) where
     unfolding is-closed
     closed-away c = subst T (sym (all-of-at _ (is-true (is-closed t i) c) 0)) tt
 
-    closed-beyond : T (is-closed t i) → T (all (λ p. exceeds tolerance (p .point .limit) (road-at t i .frc)) (leg-stops t))
-    unfolding is-closed
+    closed-beyond : T (is-closed t i) → T (all (beyond-limit t i) (leg-stops t))
+    unfolding is-closed beyond-every-limit
     closed-beyond c = subst T (sym (all-of-at _ (is-true (is-closed t i) c) 1)) tt
 
     closed-unnamed : T (is-closed t i) → T (not (named t i))
@@ -93,7 +96,7 @@ module _ (t : Sheet) where
   permitted-open : (p : Stop) → In p (leg-stops t) → (i : ℕ) → T (allows (class p) (road-at t i)) → T (is-open t i)
   unfolding is-open
   permitted-open p m i h = not-T (is-closed t i) (λ c.
-      clash tolerance (p .point .limit) (road-at t i) h (all-at (λ q. exceeds tolerance (q .point .limit) (road-at t i .frc)) (closed-beyond i c) m) (closed-away i c))
+      clash tolerance (p .point .limit) (road-at t i) h (all-at (beyond-limit t i) (closed-beyond i c) m) (closed-away i c))
 
   -- nor is one that a row names
   named-open : (p : Stop) → In p (t .stops) → (w : Row) → In w (p .rows) → T (is-open t (w .road))

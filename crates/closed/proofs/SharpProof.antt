@@ -1,72 +1,77 @@
 -- Each condition of demand 3 is needed, by computing.
-use Prim.Native.Nat.{ℕ, zero, suc}
-use mathlib.Core.Path.{_≡_, refl, sym, ap, _∙_, subst}
-use mathlib.Core.Bool.{true}
-use mathlib.Core.List.{List, []}
-use native.Mathlib.Omega.{arith}
-use lib.Dec.{T}
-use lib.ListN.{length, List·getD-eq-default}
-use Rattle.model.specs.Lists.{keep}
-use Rattle.model.specs.Layout.{counts-of, settings-bytes, points-bytes, road-bytes, rows-bytes, distances-bytes}
-use Rattle.model.specs.Sheet.{parsed, list-at}
-use Rattle.model.proofs.Computes.{computes}
-use Rattle.closed.specs.Closed.{exceeds, named, is-closed, is-open, Agree, Alike, core}
-use Rattle.closed.specs.Sharp.{path-count, without, with-loop, Differ, Sharp}
+use mathlib.Core.Path.{_≡_, refl}
+use mathlib.Core.List.{[], _∷_}
+use Rattle.model.specs.declared.Judged.the-variants.{Fine}
+use Rattle.model.specs.Numbers.{nat}
+use Rattle.model.specs.Judge.{judged}
+use Rattle.closed.specs.Closed.{is-closed, AlikeBy, Alike, refusal, match}
+use Rattle.closed.specs.Sharp.{slip-too, named-too, beyond-one-limit, beyond-limits-given, beyond-bare-limits, AnyOrder, AnyBytes, AnyNumbers, SnappingOff, NoZeroLength, core-of, path-count, Answered, no-bridge, bridge, two-bridges, two-legs-gap, two-legs-bridge, class-limit-7, no-class-limit, named-road, twins, alone, longer, looped, over, Sharp, SharpWhole}
+use Rattle.closed.proofs.Likeness.{alike-by, any-order, any-bytes, any-numbers, computes-likeness}
 
--- two sheets of three nodes, one with the open roads 0 and 1, the other with these and the closed road 2
-module _ (x y : List ℕ) (roads-x : counts-of x .e ≡ 2) (roads-y : counts-of y .e ≡ 3) (closed : is-closed (parsed y) 2 ≡ true)
-    (road-0 : road-bytes x (counts-of x) 0 ≡ road-bytes y (counts-of y) 0) (road-1 : road-bytes x (counts-of x) 1 ≡ road-bytes y (counts-of y) 1) where
-  there : Agree x y
-  there zero h e = (omega arith, road-0)
-  there (suc zero) h e = (omega arith, road-1)
-  there (suc (suc i)) h e = absurd (omega arith)
+closed : Answered core-of Alike no-bridge (bridge 6 3) (refusal 10 0 1) (refusal 10 0 1)
+unfolding computes-likeness
+closed = record { fine = (refl, refl); like = alike-by no-bridge (bridge 6 3) tt is-closed tt tt tt; answers = (refl, refl) }
 
-  back : Agree y x
-  back zero h e = (omega arith, sym road-0)
-  back (suc zero) h e = (omega arith, sym road-1)
-  back (suc (suc zero)) h e = absurd (subst T (sym closed ∙ e) tt)
-  back (suc (suc (suc i))) h e = absurd (omega arith)
+slip : Answered core-of (AlikeBy slip-too) no-bridge (bridge 6 6) (refusal 10 0 1) (over 80 702)
+unfolding computes-likeness
+slip = record { fine = (refl, refl); like = alike-by no-bridge (bridge 6 6) tt slip-too tt tt tt; answers = (refl, refl) }
 
-  abbrev Same : ℕ → Type 0
-  Same v = keep (is-open (parsed x)) (list-at (parsed x) v) ≡ keep (is-open (parsed y)) (list-at (parsed y) v)
+tolerance : Answered core-of (AlikeBy beyond-bare-limits) no-bridge (bridge 5 3) (refusal 10 0 1) (over 80 702)
+unfolding computes-likeness
+tolerance = record { fine = (refl, refl); like = alike-by no-bridge (bridge 5 3) tt beyond-bare-limits tt tt tt; answers = (refl, refl) }
 
-  module _ (nodes-x : length (parsed x .lists) ≡ 3) (nodes-y : length (parsed y .lists) ≡ 3) (at-0 : Same 0) (at-1 : Same 1) (at-2 : Same 2) where
-    -- past the nodes there are no lists
-    order : (v : ℕ) → Same v
-    unfolding keep
-    order zero = at-0
-    order (suc zero) = at-1
-    order (suc (suc zero)) = at-2
-    order (suc (suc (suc v))) =
-        ap (keep (is-open (parsed x))) (List·getD-eq-default (parsed x .lists) [] {n = suc (suc (suc v))} (omega arith))
-        ∙ sym (ap (keep (is-open (parsed y))) (List·getD-eq-default (parsed y .lists) [] {n = suc (suc (suc v))} (omega arith)))
+every-leg : Answered core-of (AlikeBy beyond-one-limit) (two-legs-gap class-limit-7) (two-legs-bridge class-limit-7) (refusal 10 1 2) (over 90 702)
+unfolding computes-likeness
+every-leg = record { fine = (refl, refl); like = alike-by (two-legs-gap class-limit-7) (two-legs-bridge class-limit-7) tt beyond-one-limit tt tt tt; answers = (refl, refl) }
 
-    alike : counts-of x .kind ≡ counts-of y .kind → counts-of x .n ≡ counts-of y .n → settings-bytes x ≡ settings-bytes y → points-bytes x (counts-of x) ≡ points-bytes y (counts-of y)
-        → rows-bytes x (counts-of x) ≡ rows-bytes y (counts-of y) → distances-bytes x (counts-of x) ≡ distances-bytes y (counts-of y) → Alike x y
-    alike a b c d e f = record { kind = a; nodes = b; settings = c; points = d; rows = e; distances = f; agree = there; agree-back = back; order = order }
+no-limit : Answered core-of (AlikeBy beyond-limits-given) (two-legs-gap no-class-limit) (two-legs-bridge no-class-limit) (refusal 10 1 2) (over 90 702)
+unfolding computes-likeness
+no-limit = record { fine = (refl, refl); like = alike-by (two-legs-gap no-class-limit) (two-legs-bridge no-class-limit) tt beyond-limits-given tt tt tt; answers = (refl, refl) }
 
-snapping : Differ (without 1 20) (with-loop 1 20) 2 1
-unfolding computes exceeds named is-closed is-open path-count
-snapping = record { fine = (refl, refl); alike = alike (without 1 20) (with-loop 1 20) refl refl refl refl refl refl refl refl refl refl refl refl refl refl refl refl; counts = (refl, refl) }
+named : Answered core-of (AlikeBy named-too) (named-road 6) (named-road 7) (refusal 10 0 1) (refusal 9 0 0)
+unfolding computes-likeness
+named = record { fine = (refl, refl); like = alike-by (named-road 6) (named-road 7) tt named-too tt tt tt; answers = (refl, refl) }
 
-zero-length : Differ (without 0 0) (with-loop 0 0) 2 1
-unfolding computes exceeds named is-closed is-open path-count
-zero-length = record { fine = (refl, refl); alike = alike (without 0 0) (with-loop 0 0) refl refl refl refl refl refl refl refl refl refl refl refl refl refl refl refl; counts = (refl, refl) }
+order : Answered core-of AnyOrder (two-bridges 702 703 2 3) (two-bridges 702 703 3 2) (over 80 702) (over 80 703)
+unfolding computes-likeness
+order = record { fine = (refl, refl); like = any-order (two-bridges 702 703 2 3) (two-bridges 702 703 3 2) tt tt tt; answers = (refl, refl) }
 
-neither : Differ (without 0 20) (with-loop 0 20) 1 1
-unfolding computes exceeds named is-closed is-open path-count
-neither = record { fine = (refl, refl); alike = alike (without 0 20) (with-loop 0 20) refl refl refl refl refl refl refl refl refl refl refl refl refl refl refl refl; counts = (refl, refl) }
+bytes : Answered core-of AnyBytes (two-bridges 702 703 2 3) (two-bridges 704 703 2 3) (over 80 702) (over 80 704)
+unfolding computes-likeness
+bytes = record { fine = (refl, refl); like = any-bytes (two-bridges 702 703 2 3) (two-bridges 704 703 2 3) tt tt; answers = (refl, refl) }
+
+numbers : Answered core-of AnyNumbers (twins 700 701 (0 ∷ 1 ∷ [])) (twins 701 700 (1 ∷ 0 ∷ [])) (match (nat 20) 700 (nat 20)) (match (nat 20) 701 (nat 20))
+unfolding computes-likeness
+numbers = record { fine = (refl, refl); like = any-numbers (twins 700 701 (0 ∷ 1 ∷ [])) (twins 701 700 (1 ∷ 0 ∷ [])) tt refl; answers = (refl, refl) }
+
+well-formed : (judged no-bridge ≡ Fine) × Alike no-bridge (bridge 8 3) × (core-of no-bridge ≡ refusal 10 0 1) × (core-of (bridge 8 3) ≡ refusal 4 304 0)
+unfolding computes-likeness
+well-formed = (refl, alike-by no-bridge (bridge 8 3) tt is-closed tt tt tt, refl, refl)
 
 pub sharp : Sharp
-unfolding computes exceeds named is-closed core
-sharp = record {
-  snapping = snapping;
-  zero-length = zero-length;
-  neither = neither;
-  slip = (refl, refl);
-  slip-cores = (refl, refl, refl);
-  every-leg = refl;
-  every-leg-cores = (refl, refl);
-  named = (refl, refl);
-  named-cores = (refl, refl);
-}
+sharp = record { closed = closed; slip = slip; tolerance = tolerance; every-leg = every-leg; no-limit = no-limit; named = named; order = order; bytes = bytes; numbers = numbers; well-formed = well-formed }
+
+-- ---- the whole answer
+
+snapping : Answered path-count (λ x y. Alike x y × NoZeroLength x × NoZeroLength y) (alone 1) (longer 1 6 20) 1 2
+unfolding computes-likeness
+snapping = record { fine = (refl, refl); like = (alike-by (alone 1) (longer 1 6 20) tt is-closed tt tt tt, refl, refl); answers = (refl, refl) }
+
+zero-there : Answered path-count (λ x y. Alike x y × SnappingOff x × NoZeroLength x) (alone 0) (longer 0 6 0) 1 2
+unfolding computes-likeness
+zero-there = record { fine = (refl, refl); like = (alike-by (alone 0) (longer 0 6 0) tt is-closed tt tt tt, refl, refl); answers = (refl, refl) }
+
+zero-here : Answered path-count (λ x y. Alike x y × SnappingOff x × NoZeroLength y) (longer 0 6 0) (alone 0) 2 1
+unfolding computes-likeness
+zero-here = record { fine = (refl, refl); like = (alike-by (longer 0 6 0) (alone 0) tt is-closed tt tt tt, refl, refl); answers = (refl, refl) }
+
+zero-both : Answered path-count (λ x y. Alike x y × SnappingOff x) (longer 0 3 0) looped 2 1
+unfolding computes-likeness
+zero-both = record { fine = (refl, refl); like = (alike-by (longer 0 3 0) looped tt is-closed tt tt tt, refl); answers = (refl, refl) }
+
+neither : Answered path-count (λ x y. Alike x y × SnappingOff x × NoZeroLength x × NoZeroLength y) (alone 0) (longer 0 6 20) 1 1
+unfolding computes-likeness
+neither = record { fine = (refl, refl); like = (alike-by (alone 0) (longer 0 6 20) tt is-closed tt tt tt, refl, refl, refl); answers = (refl, refl) }
+
+pub sharp-whole : SharpWhole
+sharp-whole = record { snapping = snapping; zero-there = zero-there; zero-here = zero-here; zero-both = zero-both; neither = neither }

@@ -11,7 +11,7 @@ use Rattle.model.specs.Lists.{keep, any, all}
 use Rattle.model.specs.Table.{all-of}
 use Rattle.model.specs.Layout.{counts-of, settings-bytes, points-bytes, road-bytes, rows-bytes, distances-bytes}
 use Rattle.model.specs.Judge.{judged}
-use Rattle.model.specs.Sheet.{Sheet, parsed, road-at, list-at}
+use Rattle.model.specs.Sheet.{Stop, Sheet, parsed, road-at, list-at}
 use Rattle.model.specs.View.{is-slip, leg-stops}
 use Rattle.model.specs.Call.{Lent, Answer, refused, matched, decode}
 
@@ -21,38 +21,57 @@ use Rattle.model.specs.Call.{Lent, Answer, refused, matched, decode}
 unfoldable pub exceeds : ℕ → ℕ → ℕ → Bool
 exceeds tolerance limit class = not (eqb limit 255) && ltb (limit + tolerance) class
 
+-- road i's class number exceeds the class limit of the leg from p
+abbrev pub beyond-limit : Sheet → ℕ → Stop → Bool
+beyond-limit t i p = exceeds (t .settings .«frc_tolerance») (p .point .limit) (road-at t i .frc)
+
+unfoldable pub beyond-every-limit : Sheet → ℕ → Bool
+beyond-every-limit t i = all (beyond-limit t i) (leg-stops t)
+
 -- a measured projection names road i
 unfoldable pub named : Sheet → ℕ → Bool
 named t i = any (λ p. any (λ w. eqb (w .road) i) (p .rows)) (t .stops)
 
+-- A rule of closing: which roads of a sheet are closed.
+abbrev pub Closing : Type 0
+Closing = Sheet → ℕ → Bool
+
 -- Road i is closed: no slip road, every leg has a class limit that its class number exceeds, and no projection names it.
-unfoldable pub is-closed : Sheet → ℕ → Bool
+unfoldable pub is-closed : Closing
 is-closed t i = all-of
     (not (is-slip (road-at t i))
-    ∷ all (λ p. exceeds (t .settings .«frc_tolerance») (p .point .limit) (road-at t i .frc)) (leg-stops t)
+    ∷ beyond-every-limit t i
     ∷ not (named t i)
     ∷ [])
 
-unfoldable pub is-open : Sheet → ℕ → Bool
-is-open t i = not (is-closed t i)
-
 -- ---- alike sheets
 
--- Every road of x that is not closed there is a road of y, with the same number and the same 32 bytes.
-abbrev pub Agree : List ℕ → List ℕ → Type 0
-Agree x y = (i : ℕ) → i < counts-of x .e → is-closed (parsed x) i ≡ false → (i < counts-of y .e) × (road-bytes x (counts-of x) i ≡ road-bytes y (counts-of y) i)
-
--- Equal kind and N, equal bytes in settings, points, rows and distances; the roads not closed agree, also in their order at each node.
-pub record Alike (x y : List ℕ) : Type 0 where
+-- Equal kind and N, equal bytes in settings, points, rows and distances.
+pub record EqualParts (x y : List ℕ) : Type 0 where
   pub kind : counts-of x .kind ≡ counts-of y .kind
   pub nodes : counts-of x .n ≡ counts-of y .n
   pub settings : settings-bytes x ≡ settings-bytes y
   pub points : points-bytes x (counts-of x) ≡ points-bytes y (counts-of y)
   pub rows : rows-bytes x (counts-of x) ≡ rows-bytes y (counts-of y)
   pub distances : distances-bytes x (counts-of x) ≡ distances-bytes y (counts-of y)
-  pub agree : Agree x y
-  pub agree-back : Agree y x
-  pub order : (v : ℕ) → keep (is-open (parsed x)) (list-at (parsed x) v) ≡ keep (is-open (parsed y)) (list-at (parsed y) v)
+
+-- Every road of x that is not closed there is a road of y, with the same number and the same 32 bytes.
+abbrev pub Agree : Closing → List ℕ → List ℕ → Type 0
+Agree closed x y = (i : ℕ) → i < counts-of x .e → closed (parsed x) i ≡ false → (i < counts-of y .e) × (road-bytes x (counts-of x) i ≡ road-bytes y (counts-of y) i)
+
+-- the numbers of the roads that leave node v and are not closed, in list order
+abbrev pub open-at : Closing → List ℕ → ℕ → List ℕ
+open-at closed x v = keep (λ i. not (closed (parsed x) i)) (list-at (parsed x) v)
+
+-- Alike by a rule of closing: equal parts; the roads not closed agree, also in their order at each node.
+pub record AlikeBy (closed : Closing) (x y : List ℕ) : Type 0 where
+  pub parts : EqualParts x y
+  pub agree : Agree closed x y
+  pub agree-back : Agree closed y x
+  pub order : (v : ℕ) → open-at closed x v ≡ open-at closed y v
+
+abbrev pub Alike : List ℕ → List ℕ → Type 0
+Alike x y = AlikeBy is-closed x y
 
 -- ---- the demand
 
