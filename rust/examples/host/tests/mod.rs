@@ -1,0 +1,8 @@
+//! `cargo test --example host`, and `cargo test` with the others.
+
+mod arguments;
+mod format;
+mod measuring;
+mod offsets;
+mod round_trip;
+mod town;
