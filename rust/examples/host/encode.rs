@@ -29,83 +29,120 @@ pub enum Location {
     },
 }
 
-/// A path with the roads before and behind it to the next valid nodes.
-struct Stretched {
+/// The roads that get points, and how many metres of them lie before and behind the location.
+#[derive(Clone)]
+struct Laid {
     roads: Vec<usize>,
-    /// How many roads were added at its start and its end.
-    before: usize,
-    behind: usize,
+    start_m: f64,
+    end_m: f64,
 }
 
-impl Stretched {
-    fn new(path: &[usize], before: &[usize], behind: &[usize]) -> Stretched {
-        Stretched {
-            roads: [before, path, behind].concat(),
-            before: before.len(),
-            behind: behind.len(),
+/// The reference of a location on a path, which has a road at the least, or why there is none.
+pub fn encode(routes: &Routes, path: &[usize], location: Location) -> Result<Reference, String> {
+    let metres: f64 = path.iter().map(|road| routes.length(*road)).sum();
+    let (start_m, end_m) = match location {
+        Location::Line { start_m, end_m } => (start_m, end_m),
+        Location::Point { at_m, .. } => (at_m, 0.0),
+    };
+    if start_m + end_m >= metres {
+        return Err(format!(
+            "nothing of its {metres:.1} m is left between the offsets"
+        ));
+    }
+    let line = Laid {
+        roads: path.to_vec(),
+        start_m,
+        end_m,
+    };
+    match location {
+        Location::Line { .. } => line_of(routes, line.trimmed(routes)),
+        Location::Point {
+            side, orientation, ..
+        } => {
+            // All of the path if two points are enough for it, else the road on which the point lies.
+            let of_all = line_of(
+                routes,
+                Laid {
+                    end_m: 0.0,
+                    ..line.clone()
+                },
+            );
+            let mut reference = match of_all {
+                Ok(reference) if reference.points.len() == 2 => reference,
+                _ => line_of(routes, line.one_road(routes))?,
+            };
+            if reference.points.len() != 2 {
+                return Err("two points are not enough for it".to_string());
+            }
+            reference.kind = Kind::PointAlongLine;
+            // Where the location begins is where the point lies. At the very start it is written too.
+            reference.start_offset = reference.start_offset.or(Some(0.0));
+            reference.end_offset = None;
+            (reference.side, reference.orientation) = (side, orientation);
+            Ok(reference)
         }
     }
 }
 
-/// The reference of a path, which has a road at the least, or why there is none.
-pub fn encode(routes: &Routes, path: &[usize], location: Location) -> Result<Reference, String> {
-    // Where the path cannot be stretched so that a leg holds the added roads, its own ends must do.
-    let plain = Stretched::new(path, &[], &[]);
-    let stretched = Stretched::new(path, &routes.before(path), &routes.onward(path));
-    let (stretched, cuts) = match cuts(routes, &stretched) {
+fn line_of(routes: &Routes, laid: Laid) -> Result<Reference, String> {
+    // Where no first or last leg holds the roads that lead on to valid nodes, the path's own ends must do.
+    let stretched = laid.stretched(routes);
+    let (laid, cuts) = match cuts(routes, &stretched) {
         Some(cuts) => (stretched, cuts),
         None => {
-            let cuts = cuts(routes, &plain).ok_or("a road of it is too long")?;
-            (plain, cuts)
+            let cuts = cuts(routes, &laid).ok_or("no first or last leg holds the offsets")?;
+            (laid, cuts)
         }
     };
-    let roads = &stretched.roads;
-    let points = cuts.len();
-    let mut reference = Reference::of(Kind::Line);
-    for leg in cuts.windows(2) {
-        let next = roads.get(leg[1]).copied();
-        reference
-            .points
-            .push(point(routes, &roads[leg[0]..leg[1]], next));
-    }
-    reference
-        .points
-        .push(last_point(routes, roads[roads.len() - 1]));
-
-    let metres = |roads: &[usize]| roads.iter().map(|road| routes.length(*road)).sum::<f64>();
-    let first_leg = metres(&roads[..cuts[1]]);
-    let last_leg = metres(&roads[cuts[points - 2]..]);
-    let before = metres(&roads[..stretched.before]);
-    let behind = metres(&roads[roads.len() - stretched.behind..]);
-    match location {
-        Location::Line { start_m, end_m } => {
-            let (start_m, end_m) = (start_m + before, end_m + behind);
-            if start_m + end_m >= metres(roads) || start_m >= first_leg || end_m >= last_leg {
-                return Err("the offsets are beyond its first or last leg".to_string());
-            }
-            reference.start_offset = offset(start_m, first_leg);
-            reference.end_offset = offset(end_m, last_leg);
-        }
-        Location::Point {
-            at_m,
-            side,
-            orientation,
-        } => {
-            reference.kind = Kind::PointAlongLine;
-            let at_m = at_m + before;
-            if points != 2 || at_m >= first_leg {
-                return Err(format!("a point along line has 2 points and lies between them; this path has {points} points and {first_leg:.0} m to the second"));
-            }
-            reference.start_offset = offset(at_m, first_leg);
-            (reference.side, reference.orientation) = (side, orientation);
-        }
-    }
+    let (roads, points) = (&laid.roads, cuts.len());
     if points > MOST_POINTS {
         return Err(format!(
             "it needs {points} points, and a sheet has {MOST_POINTS} at the most"
         ));
     }
+    let mut reference = Reference::of(Kind::Line);
+    for leg in cuts.windows(2) {
+        let next = roads.get(leg[1]).copied();
+        let leg = &roads[leg[0]..leg[1]];
+        reference.points.push(point(routes, leg, next));
+    }
+    let last = last_point(routes, roads[roads.len() - 1]);
+    reference.points.push(last);
+    let metres = |roads: &[usize]| roads.iter().map(|road| routes.length(*road)).sum::<f64>();
+    reference.start_offset = offset(laid.start_m, metres(&roads[..cuts[1]]));
+    reference.end_offset = offset(laid.end_m, metres(&roads[cuts[points - 2]..]));
     Ok(reference)
+}
+
+impl Laid {
+    /// Without the roads at either end of which the location has nothing.
+    fn trimmed(mut self, routes: &Routes) -> Laid {
+        while self.start_m >= routes.length(self.roads[0]) {
+            self.start_m -= routes.length(self.roads.remove(0));
+        }
+        while self.end_m >= routes.length(self.roads[self.roads.len() - 1]) {
+            self.end_m -= self.roads.pop().map_or(0.0, |road| routes.length(road));
+        }
+        self
+    }
+
+    /// The road on which the location begins.
+    fn one_road(self, routes: &Routes) -> Laid {
+        let mut laid = self.trimmed(routes);
+        laid.roads.truncate(1);
+        laid
+    }
+
+    /// With the roads before and behind that lead to valid nodes.
+    fn stretched(&self, routes: &Routes) -> Laid {
+        let (before, behind) = (routes.before(&self.roads), routes.onward(&self.roads));
+        let metres = |roads: &[usize]| roads.iter().map(|road| routes.length(*road)).sum::<f64>();
+        Laid {
+            roads: [&before[..], &self.roads, &behind].concat(),
+            start_m: self.start_m + metres(&before),
+            end_m: self.end_m + metres(&behind),
+        }
+    }
 }
 
 /// A part of a leg; None where it is nothing.
@@ -115,16 +152,16 @@ fn offset(part_m: f64, leg_m: f64) -> Option<f64> {
 
 /// Where legs begin and the last one ends: the cheapest choice of all, a leg costing 1 and more if it is short, or if it
 /// begins at a node that suits a point badly.
-fn cuts(routes: &Routes, stretched: &Stretched) -> Option<Vec<usize>> {
-    let count = stretched.roads.len();
+fn cuts(routes: &Routes, laid: &Laid) -> Option<Vec<usize>> {
+    let count = laid.roads.len();
     let mut best = vec![(f64::INFINITY, count); count + 1];
     best[count].0 = 0.0;
     for start in (0..count).rev() {
         let place = match start {
             0 => 1.0,
-            _ => 1.0 + doubt(routes, stretched.roads[start - 1], stretched.roads[start]),
+            _ => 1.0 + doubt(routes, laid.roads[start - 1], laid.roads[start]),
         };
-        let ends = leg_ends(routes, stretched, start);
+        let ends = leg_ends(routes, laid, start);
         for (end, short) in ends {
             let cost = place + short + best[end].0;
             if cost < best[start].0 {
@@ -172,16 +209,16 @@ fn doubt(routes: &Routes, road: usize, next: usize) -> f64 {
 }
 
 /// Where a leg that begins with a road may end, and what its shortness costs.
-fn leg_ends(routes: &Routes, stretched: &Stretched, start: usize) -> Vec<(usize, f64)> {
-    let roads = &stretched.roads;
+fn leg_ends(routes: &Routes, laid: &Laid, start: usize) -> Vec<(usize, f64)> {
+    let roads = &laid.roads;
     let tree = routes.tree(routes.ends(roads[start]).0);
     let mut length = 0.0;
     let mut ends = vec![];
     for end in start + 1..=roads.len() {
         let leg = &roads[start..end];
         length += routes.length(leg[leg.len() - 1]);
-        let holds_offsets = (start > 0 || end > stretched.before)
-            && (end < roads.len() || start < roads.len() - stretched.behind);
+        let holds_offsets =
+            (start > 0 || length > laid.start_m) && (end < roads.len() || length > laid.end_m);
         if length >= MOST_DNP_M || !holds_offsets {
             continue;
         }

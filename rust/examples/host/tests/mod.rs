@@ -5,4 +5,5 @@ mod format;
 mod measuring;
 mod offsets;
 mod round_trip;
+mod rows;
 mod town;
