@@ -9,7 +9,8 @@ pub const HELP: &str = "\
 A whole host: reads a road network and an OpenLR reference, measures, lays out the sheet, decodes it, says the roads in
 words and draws them. Without crates; base64, format and geometry are this example's own and no part of the library.
 
-  host --from NODE --to NODE     writes the reference of the shortest path between two nodes, then decodes it
+  host --from NODE --to NODE     writes the reference of the shortest path between two nodes (ramps and access roads
+                                 count as longer, as in the decoder's search), then decodes it
   host --reference BASE64        decodes a reference of the binary format, version 3
 
   --offset METRES       with --from: the location begins so far into the path

@@ -1,6 +1,7 @@
 //! What stands above and below the map: title, scale, north, and what the lines mean.
 
-use crate::picture::{style, triangle, CLOSED, FOOT, PATH, POINT, TRIMMED, WIDTH};
+use crate::picture::{diamond, style, triangle, CLOSED, FOOT, PATH, POINT, TRIMMED, WIDTH};
+use hemokatu::Kind;
 
 /// The reference and the answer.
 pub fn title(svg: &mut String, heading: &str, result: &str, base64: &str) {
@@ -30,7 +31,7 @@ pub fn title(svg: &mut String, heading: &str, result: &str, base64: &str) {
 }
 
 /// Scale and legend, from this height on.
-pub fn foot(svg: &mut String, top: f64, metres_per_pixel: f64, has_closed: bool) {
+pub fn foot(svg: &mut String, top: f64, metres_per_pixel: f64, kind: Kind, has_closed: bool) {
     scale(svg, top + 30.0, metres_per_pixel);
     let roads = [
         (1, 2, "ring road, FRC 1"),
@@ -41,44 +42,49 @@ pub fn foot(svg: &mut String, top: f64, metres_per_pixel: f64, has_closed: bool)
         (5, 3, "FRC 5"),
         (6, 3, "yard, FRC 6"),
     ];
-    let mut x = 290.0;
+    let mut x = 262.0;
     for (frc, fow, name) in roads {
         let (fill, border, width) = style(frc, fow);
         stroke(svg, x, top + 26.0, border, width + 2.0, "");
         stroke(svg, x, top + 26.0, fill, width, "");
         x = named(svg, x, top + 26.0, name);
     }
-    let mut x = 290.0;
-    for (colour, name) in [
-        (PATH, "location"),
-        (TRIMMED, "trimmed from the path by offsets"),
-    ] {
-        stroke(svg, x, top + 58.0, colour, 7.0, "");
-        x = named(svg, x, top + 58.0, name);
+    if has_closed {
+        stroke(svg, x, top + 26.0, CLOSED, 5.0, " stroke-dasharray=\"7 5\"");
+        named(svg, x, top + 26.0, "closed");
     }
-    stroke(svg, x, top + 58.0, POINT, 2.4, "");
-    triangle(svg, (x + 30.0, top + 58.0), 90.0, POINT, 6.0);
-    *svg += &format!(
-        "<circle cx=\"{x:.1}\" cy=\"{:.1}\" r=\"7\" fill=\"{POINT}\"/>\n",
-        top + 58.0
-    );
-    x = named(
+    let y = top + 58.0;
+    let mut x = 262.0;
+    let others = match kind {
+        Kind::PointAlongLine => {
+            diamond(svg, (x + 14.0, y));
+            ["location", "path"]
+        }
+        _ => {
+            stroke(svg, x, y, PATH, 7.0, "");
+            ["location", "path, trimmed by its offsets"]
+        }
+    };
+    x = named(svg, x, y, others[0]);
+    stroke(svg, x, y, TRIMMED, 7.0, "");
+    x = named(svg, x, y, others[1]);
+    stroke(svg, x, y, POINT, 2.4, "");
+    triangle(svg, (x + 30.0, y), 90.0, POINT, 6.0);
+    *svg += &format!("<circle cx=\"{x:.1}\" cy=\"{y:.1}\" r=\"7\" fill=\"{POINT}\"/>\n");
+    named(
         svg,
-        x,
-        top + 58.0,
+        x + 8.0,
+        y,
         "location point and bearing; the last one's leads up to it",
     );
-    if has_closed {
-        stroke(svg, x, top + 58.0, CLOSED, 5.0, " stroke-dasharray=\"7 5\"");
-        named(svg, x, top + 58.0, "closed");
-    }
+    let small = "Small arrows: one way only. Dots: nodes.";
     text(
         svg,
         20.0,
         top + FOOT - 12.0,
         11.0,
         " fill=\"#77736a\"",
-        "Small arrows: one way only. Dots: nodes.",
+        small,
     );
 }
 

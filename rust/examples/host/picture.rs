@@ -72,6 +72,7 @@ impl Picture<'_> {
             &mut svg,
             HEAD + view.height,
             metres_per_pixel,
+            self.reference.kind,
             !self.host.closed.is_empty(),
         );
         svg + "</svg>\n"
@@ -142,7 +143,7 @@ impl Picture<'_> {
                 &view.line(&network.roads[road].line),
                 CLOSED,
                 5.0,
-                " stroke-dasharray=\"7 5\" stroke-linecap=\"butt\"",
+                " stroke-dasharray=\"7 9\"",
             );
         }
         for &road in &order {
@@ -173,10 +174,7 @@ impl Picture<'_> {
             " stroke-opacity=\"0.9\"",
         );
         match self.reference.kind {
-            Kind::PointAlongLine => {
-                let (x, y) = view.at(measure::place_at(&located.line, from));
-                *svg += &format!("<rect x=\"{:.1}\" y=\"{:.1}\" width=\"14\" height=\"14\" transform=\"rotate(45 {x:.1} {y:.1})\" fill=\"{PATH}\" stroke=\"#fff\" stroke-width=\"1.5\"/>\n", x - 7.0, y - 7.0);
-            }
+            Kind::PointAlongLine => diamond(svg, view.at(measure::place_at(&located.line, from))),
             _ => line(svg, &part(from, to), PATH, 7.0, ""),
         }
         let step = 70.0 / view.pixels(1.0);
@@ -257,5 +255,12 @@ pub fn triangle(svg: &mut String, (x, y): (f64, f64), bearing: f64, colour: &str
     *svg += &format!(
         "<path d=\"M0,{:.1} L{:.1},{:.1} L{:.1},{:.1} Z\" transform=\"translate({x:.1} {y:.1}) rotate({bearing:.0})\" fill=\"{colour}\"/>\n",
         -size, 0.75 * size, 0.8 * size, -0.75 * size, 0.8 * size
+    );
+}
+
+/// Where a point along line lies.
+pub fn diamond(svg: &mut String, (x, y): (f64, f64)) {
+    *svg += &format!(
+        "<rect x=\"-7\" y=\"-7\" width=\"14\" height=\"14\" transform=\"translate({x:.1} {y:.1}) rotate(45)\" fill=\"{PATH}\" stroke=\"#fff\" stroke-width=\"1.5\"/>\n"
     );
 }

@@ -4,6 +4,7 @@ mod arguments;
 mod format;
 mod measuring;
 mod offsets;
+mod picture;
 mod round_trip;
 mod rows;
 mod town;

@@ -3,128 +3,14 @@
 
 // The example host's measuring; the traps need a part of it.
 #[allow(dead_code)]
-#[path = "../examples/host/measure.rs"]
+#[path = "../../examples/host/measure.rs"]
 mod measure;
 
-use hemokatu::{Decoder, Kind, PathEntry, Point, Road, Row, SheetBuilder};
-use measure::{Place, Side, CHORD_M};
+mod map;
 
-/// A place so many metres east and north of where equator and prime meridian cross.
-fn at(east: f64, north: f64) -> Place {
-    let degree = measure::EARTH_RADIUS_M.to_radians();
-    Place {
-        lon: east / degree,
-        lat: north / degree,
-    }
-}
-
-/// Roads between nodes, drawn as their lines.
-struct Map {
-    nodes: Vec<Place>,
-    /// Id, source, target, and what lies between the two.
-    roads: Vec<(u64, usize, usize, Vec<Place>)>,
-}
-
-impl Map {
-    fn new(nodes: &[(f64, f64)], roads: &[(u64, usize, usize)]) -> Map {
-        let straight = |&(id, source, target)| (id, source, target, vec![]);
-        Map {
-            nodes: nodes
-                .iter()
-                .map(|(east, north)| at(*east, *north))
-                .collect(),
-            roads: roads.iter().map(straight).collect(),
-        }
-    }
-
-    fn line(&self, road: usize) -> Vec<Place> {
-        let (_, source, target, between) = &self.roads[road];
-        [&[self.nodes[*source]], &between[..], &[self.nodes[*target]]].concat()
-    }
-
-    /// The roads, each as long as its line, and the points with their distances as the crow flies.
-    fn sheet(&self, points: Vec<(Place, Point)>) -> SheetBuilder {
-        let mut sheet = SheetBuilder::new(Kind::Line, self.nodes.len());
-        for (number, (id, source, target, _)) in self.roads.iter().enumerate() {
-            sheet.road(Road {
-                id: *id,
-                length_m: measure::length(&self.line(number)),
-                source: *source,
-                target: *target,
-                frc: 3,
-                fow: 3,
-                access: false,
-            });
-        }
-        sheet.from_first(self.crow(points[0].0));
-        sheet.from_last(self.crow(points[points.len() - 1].0));
-        for (_, point) in points {
-            sheet.point(point);
-        }
-        for goal in sheet.goal_nodes() {
-            sheet.goal(goal, self.crow(self.nodes[goal]));
-        }
-        sheet
-    }
-
-    fn crow(&self, from: Place) -> Vec<f64> {
-        let nodes = self.nodes.iter();
-        nodes.map(|node| measure::distance(from, *node)).collect()
-    }
-
-    /// A row for every road within 100 m.
-    fn rows(&self, place: Place, side: Side) -> Vec<Row> {
-        let mut rows = vec![];
-        for road in 0..self.roads.len() {
-            let line = self.line(road);
-            let projection = measure::project(place, &line);
-            if projection.distance_m <= 100.0 {
-                rows.push(Row {
-                    road,
-                    distance: projection.distance_m,
-                    bearing: measure::bearing_along(&line, projection.along_m, CHORD_M, side),
-                    along: projection.along_m,
-                    line: projection.line_m,
-                });
-            }
-        }
-        rows
-    }
-
-    fn first(&self, place: Place, bearing: u16, dnp: f64) -> (Place, Point) {
-        let path = Some(PathEntry { limit: 3, dnp });
-        (place, point(bearing, path, self.rows(place, Side::Forward)))
-    }
-
-    fn last(&self, place: Place, bearing: u16) -> (Place, Point) {
-        (
-            place,
-            point(bearing, None, self.rows(place, Side::Backward)),
-        )
-    }
-}
-
-fn point(bearing: u16, path: Option<PathEntry>, rows: Vec<Row>) -> Point {
-    Point {
-        bearing,
-        frc: 3,
-        fow: 3,
-        path,
-        rows,
-    }
-}
-
-/// The ids, then length and end offset in whole metres.
-fn decoded(sheet: &SheetBuilder) -> (Vec<u64>, f64, f64) {
-    let bytes = sheet.build().expect("a well-formed sheet");
-    let mut decoder = Decoder::new();
-    let found = decoder.decode(&bytes).expect("a match");
-    (
-        found.ids.to_vec(),
-        found.length_m.round(),
-        found.end_offset.round(),
-    )
-}
+use hemokatu::{Kind, PathEntry, Row, SheetBuilder};
+use map::{at, decoded, point, road, Map};
+use measure::{Side, CHORD_M};
 
 /// ```text
 /// 0 ──10, 200 m──→ 1 ←─20, 21, 49.5 m─→ 2      the line ends at 1, going east
@@ -236,15 +122,7 @@ fn only_the_nearest_road() {
     let sheet = |nearest: bool| {
         let mut sheet = SheetBuilder::new(Kind::Line, 2);
         for (id, length_m) in [(10, 200.0), (20, 290.0)] {
-            sheet.road(Road {
-                id,
-                length_m,
-                source: 0,
-                target: 1,
-                frc: 3,
-                fow: 3,
-                access: false,
-            });
+            sheet.road(road(id, length_m, 0, 1));
         }
         let path = PathEntry {
             limit: 3,
@@ -274,15 +152,7 @@ fn only_the_nearest_road() {
 fn the_roads_length_as_the_lines() {
     let sheet = |line: f64| {
         let mut sheet = SheetBuilder::new(Kind::Line, 2);
-        sheet.road(Road {
-            id: 10,
-            length_m: 120.0,
-            source: 0,
-            target: 1,
-            frc: 3,
-            fow: 3,
-            access: false,
-        });
+        sheet.road(road(10, 120.0, 0, 1));
         let path = PathEntry {
             limit: 3,
             dnp: 120.0,
