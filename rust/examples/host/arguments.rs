@@ -42,7 +42,8 @@ pub struct Arguments {
     pub closed: BTreeSet<u64>,
     pub back: bool,
     pub whole: bool,
-    pub network: PathBuf,
+    /// None for the town.
+    pub network: Option<PathBuf>,
     pub svg: PathBuf,
     pub zoom: bool,
 }
@@ -66,7 +67,7 @@ impl Arguments {
             closed: BTreeSet::new(),
             back: false,
             whole: false,
-            network: concat!(env!("CARGO_MANIFEST_DIR"), "/examples/host/town.csv").into(),
+            network: None,
             svg: "host.svg".into(),
             zoom: false,
         };
@@ -83,7 +84,7 @@ impl Arguments {
                 "--end-offset" => given.end_offset = Some(metres(&name, &value()?)?),
                 "--point" => given.point = Some(metres(&name, &value()?)?),
                 "--reference" => given.reference = Some(value()?),
-                "--network" => all.network = value()?.into(),
+                "--network" => all.network = Some(value()?.into()),
                 "--svg" => all.svg = value()?.into(),
                 "--last-bearing" => {
                     all.back = match value()?.as_str() {

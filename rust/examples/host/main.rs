@@ -31,6 +31,9 @@ use sheet::Measurer;
 use std::io::Write;
 use std::process::ExitCode;
 
+/// The network that ships with this.
+const TOWN: &str = include_str!("town.csv");
+
 fn main() -> ExitCode {
     let mut text = String::new();
     let ended = run(&mut text);
@@ -52,7 +55,10 @@ fn run(text: &mut String) -> Result<bool, String> {
         *text += HELP;
         return Ok(true);
     };
-    let network = Network::read(&arguments.network)?;
+    let network = match &arguments.network {
+        Some(file) => Network::read(file)?,
+        None => Network::parse(TOWN)?,
+    };
     let mut host = Measurer::new(&network);
     host.cut = !arguments.whole;
     host.closed = arguments.closed.clone();

@@ -8,3 +8,4 @@ mod picture;
 mod round_trip;
 mod rows;
 mod town;
+mod within;

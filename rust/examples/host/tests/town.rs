@@ -4,7 +4,7 @@ use crate::network::Network;
 use crate::route::Routes;
 
 pub fn town() -> Network {
-    Network::parse(include_str!("../town.csv")).expect("the town can be read")
+    Network::parse(crate::TOWN).expect("the town can be read")
 }
 
 /// Random numbers: xorshift, so that every run is the same.
