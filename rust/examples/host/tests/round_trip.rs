@@ -11,6 +11,15 @@ use crate::{base64, binary};
 use hemokatu::{Decoder, Match};
 
 const PATHS: usize = 1_200;
+/// Places, bearings, distances: one of them, or two.
+const ONE_OR_TWO: [[bool; 3]; 6] = [
+    [true, false, false],
+    [false, true, false],
+    [false, false, true],
+    [true, true, false],
+    [true, false, true],
+    [false, true, true],
+];
 pub const ALL: Location = Location::Line {
     start_m: 0.0,
     end_m: 0.0,
@@ -51,13 +60,34 @@ fn blur(reference: &Reference) -> f64 {
     SAME_M + if has_offset { longest / 512.0 } else { 0.0 }
 }
 
+/// The reference as read, with some of places, bearings and distances as they were made.
+fn sharpened(
+    read: &Reference,
+    exact: &Reference,
+    [places, bearings, distances]: [bool; 3],
+) -> Reference {
+    let mut reference = read.clone();
+    for (point, exact) in reference.points.iter_mut().zip(&exact.points) {
+        if places {
+            point.at = exact.at;
+        }
+        if bearings {
+            point.bearing = exact.bearing;
+        }
+        if distances {
+            point.way = exact.way;
+        }
+    }
+    reference
+}
+
 /// Half of the paths are the cheapest between two nodes, half are walks that turn anywhere.
 ///
 /// 1. With the reference as it was made, in full precision, every path comes out, road for road: measuring, choice of
 ///    points and decoding fit together.
 /// 2. Written and read, it comes out too, but for roads at an end of which the location has less than the blur.
-/// 3. Where it does not, the format's steps are the cause: by rule 1 the same reference without them gives the path. The
-///    decoder found a path that fits the coarse places and distances better. That is rare, and counted.
+/// 3. Where it does not, the format's steps are the cause: with the places, the bearings or the distances in full precision
+///    again, or two of them, the path comes out. That is rare, and counted.
 #[test]
 fn paths_come_back() {
     let town = town();
@@ -78,7 +108,15 @@ fn paths_come_back() {
         match locate(&host, &mut decoder, &read) {
             Some(located) if located.roads == path => same += 1,
             Some(located) if covered(&town, &located, blur(&read)) == path => blurred += 1,
-            _ => coarse += 1,
+            _ => {
+                let is_path = |sharp: &[bool; 3]| {
+                    let reference = sharpened(&read, &exact, *sharp);
+                    let located = locate(&host, &mut decoder, &reference);
+                    located.is_some_and(|l| covered(&town, &l, blur(&read)) == path)
+                };
+                assert!(ONE_OR_TWO.iter().any(is_path), "path {number}");
+                coarse += 1;
+            }
         }
     }
     assert_eq!(same + blurred + coarse, PATHS);
