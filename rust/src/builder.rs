@@ -157,7 +157,7 @@ impl SheetBuilder {
         nodes.into_iter().collect()
     }
 
-    /// The metres to a goal node from each node.
+    /// The metres to a goal node from each node, as the crow flies; `docs/MEASURE.md` says why.
     pub fn goal(&mut self, node: usize, distances_m: Vec<f64>) {
         self.goals.insert(node, distances_m);
     }

@@ -141,7 +141,8 @@ impl Settings {
     }
 }
 
-/// A location reference point.
+/// A location reference point. `docs/MEASURE.md` says how its numbers are measured; the last one's bearing is in the
+/// direction of travel.
 #[derive(Debug, Clone, PartialEq)]
 pub struct Point {
     /// Degrees, 0 to 360.
@@ -165,7 +166,7 @@ pub struct PathEntry {
     pub dnp_m: f64,
 }
 
-/// A point measured against a road.
+/// A point measured against a road. `docs/MEASURE.md` says how, and which roads get a row.
 #[derive(Debug, Clone, Copy, PartialEq)]
 pub struct Row {
     /// The road's number.
