@@ -2,8 +2,9 @@
 ghost use mathlib.Core.Path.{_≡_};
 ghost use Prim.Native.Nat.{_≤_};
 ghost use Rattle.model.specs.Candidates.{same-bytes, is-access-road, substitution-score, class-difference};
-ghost use Rattle.model.specs.View.{raised, allows};
+ghost use Rattle.model.specs.View.{raised, permits, penalty};
 ghost use Rattle.road_network.specs.Forms.{entry-score};
+use model::AStarConstraints;
 use model::Road;
 
 // Whether two slices hold the same bytes.
@@ -95,9 +96,22 @@ pub fn raised(tolerance: u8, limit: u8) -> u8
     if sum < 7 { sum as u8 } else { 7 }
 }
 
-// Whether a leg with this raised limit may use the road: by its class, or as a slip road.
-pub fn allows(class: u8, r: Road) -> bool
-    ensures { λ b. ⌜ b ≡ allows class r ⌝ }
+// Whether a leg may use road r: its class is within the limit, or it is a slip road.
+pub fn permits(k: AStarConstraints, r: Road) -> bool
+    ensures { λ b. ⌜ b ≡ permits k r ⌝ }
 {
-    r.frc <= class || r.fow == 6
+    r.frc <= k.max_frc || r.fow == 6
+}
+
+// What a road costs beside its length: slip wins over access.
+pub fn penalty(k: AStarConstraints, r: Road) -> f64
+    ensures { λ p. ⌜ p ≡ penalty k r ⌝ }
+{
+    if r.fow == 6 {
+        k.slip_road_cost_penalty
+    } else if r.access {
+        k.access_road_cost_penalty
+    } else {
+        0.0
+    }
 }
