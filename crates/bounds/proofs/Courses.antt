@@ -14,7 +14,7 @@ use Rattle.model.specs.declared.Row.{Row}
 use Rattle.model.specs.declared.Limits.{Limits}
 use Rattle.model.specs.Lists.{In, last, maybe}
 use Rattle.model.specs.Sheet.{Stop, Sheet, road-at, leaving-roads}
-use Rattle.model.specs.View.{Leg, allows, spot-of, place-of, leg-of, leg-stops, limits-of, view}
+use Rattle.model.specs.View.{Leg, permits, spot-of, place-of, leg-of, leg-stops, limits-of, view}
 use Rattle.model.specs.Candidates.{Candidate, fraction, candidate-of, find-candidates}
 use Rattle.model.specs.Search.{Query, Found, found, none-found, full, run, search-within, bounded-astar}
 use Rattle.model.specs.Legs.{Coverage, Route, Pair, fits-alone, route-alone, length-over, route-over, find-best-path}
@@ -45,7 +45,7 @@ InSheet t r = In r (t .roads)
 pub sheet-roads : (t : Sheet) → Formed t → RoadLaw t (InSheet t)
 sheet-roads t wf = record {
   rows = λ p m w j. in-getD (t .roads) (w .road) _ (wf .rows p m w j .road);
-  ways = λ p m v r j. leaving-road wf v r (in-keep (allows (limits-of (t .settings) (p .point) .class)) (leaving-roads t v) j .0) .0;
+  ways = λ p m v r j. leaving-road wf v r (in-keep (permits (limits-of (t .settings) (p .point) .constraints)) (leaving-roads t v) j .0) .0;
 }
 
 -- ---- what candidates and searches give

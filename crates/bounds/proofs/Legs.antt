@@ -9,7 +9,7 @@ use Rattle.model.specs.Candidates.{Candidate}
 use Rattle.model.specs.declared.Limits.{Limits}
 use Rattle.model.specs.Numbers.{_<ᶠ_, _≤ᶠ_, f0}
 use Rattle.model.specs.Lists.{In, when, sort}
-use Rattle.model.specs.View.{allows}
+use Rattle.model.specs.View.{permits}
 use Rattle.model.specs.Search.{Found, found, none-found, full}
 use Rattle.model.specs.Legs.{Route, Scored, Pair, same-road, score-of, best-score, improve, first-or-better, length-alone, fits-alone, route-alone, on-one-road, leg-pairs, close, take-close, try-same-edge-solution, length-over, fits-over, route-over, over, Sought, best, no-path, heap-full, sought, Asked, nothing, alone, across, middle-max, asked, Seek, middle-of, Turn, ends, goes-on, reached, settled, try-pair, end-or-try, next-pair, try-pairs, by-sum, else-pairs, find-best-path}
 use Rattle.model.proofs.Members.{here, either, in-sort, fold-holds}
@@ -87,7 +87,7 @@ module _ (P : Route → Type 0) (F : Found → Type 0) (b : Limits) (seek : Seek
   asked-holds : (p : Pair) → Gives p → Asks P (asked b p)
   unfolding asked
   asked-holds p g =
-      either (Asks P) (not (allows (b .class) (p .start .road) && allows (b .class) (p .end .road))) tt
+      either (Asks P) (not (permits (b .constraints) (p .start .road) && permits (b .constraints) (p .end .road))) tt
       (either (Asks P) (same-road p) (alone-holds p g)
       (either (Asks P) (middle-max b p ≤ᶠ f0) tt tt))
 

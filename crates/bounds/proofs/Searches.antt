@@ -7,6 +7,7 @@ use mathlib.Core.List.{List, [], _∷_, map, List·Memᴰ·tail, Memᴰ·of-map}
 use lib.Dec.{eqb, ltb}
 use lib.ListN.{length}
 use lib.Ieee.{Float}
+use Rattle.model.specs.declared.Point.{Point}
 use Rattle.model.specs.declared.Road.{Road}
 use Rattle.model.specs.declared.Limits.{Limits}
 use Rattle.model.specs.declared.Judged.{Judged}
@@ -16,9 +17,9 @@ use Rattle.model.specs.Lists.{In, maybe, sort}
 use Rattle.model.specs.Layout.{point-along-line, counts-of}
 use Rattle.model.specs.Judge.{judged}
 use Rattle.model.specs.Sheet.{Stop, Sheet, leaving-roads, sheet-of, parsed}
-use Rattle.model.specs.View.{Leg, is-slip, allows, limits-of, place-of, leg-of, leg-stops, view}
+use Rattle.model.specs.View.{Leg, is-slip, permits, penalty, limits-of, place-of, leg-of, leg-stops, view}
 use Rattle.model.specs.Candidates.{Candidate, find-candidates, closest-point}
-use Rattle.model.specs.Search.{Query, Searcher, Found, found, penalty, search-within, bounded-astar}
+use Rattle.model.specs.Search.{Query, Searcher, Found, found, search-within, bounded-astar}
 use Rattle.model.specs.Legs.{Scored, Pair, Asked, nothing, alone, across, Seek, Sought, best-score, leg-pairs, try-same-edge-solution, asked, middle-of, settled, try-pair, end-or-try, next-pair, try-pairs, by-sum, else-pairs, find-best-path}
 use Rattle.model.specs.Decode.{query-of, seek-of, Course, no-course, Outcome, refused, with-primary, extended, course-of, after-leg, decode-line, decode-point-along-line, decode-legs, first-empty, require-close-candidate, decode-points, outcome}
 use Rattle.model.specs.Call.{Lists, Lent, roomy, answered, untouched, decode-by, decode-sheet, after-judging, decode}
@@ -35,18 +36,18 @@ use Rattle.bounds.proofs.Sources.{found-on-roads, in-leg-pairs, leaving
 
 -- ---- the ways that a leg gives a search
 
-penalty-amount : {t : Sheet} → Formed t → (r : Road) → Amount (penalty (t .settings) r)
-unfolding penalty
-penalty-amount wf r = either Amount (is-slip r) (finite-amount _ (wf .slip)) (either Amount (r .access) (finite-amount _ (wf .access)) zero-amount)
+penalty-amount : {t : Sheet} → Formed t → (p : Point) (r : Road) → Amount (penalty (limits-of (t .settings) p .constraints) r)
+unfolding penalty limits-of
+penalty-amount wf p r = either Amount (is-slip r) (finite-amount _ (wf .slip)) (either Amount (r .access) (finite-amount _ (wf .access)) zero-amount)
 
 pub leg-ways : (t : Sheet) → Formed t → (p : Stop) (goal : ℕ) (bound : Float) → Ways (query-of (view t) (leg-of t p) goal bound)
 unfolding query-of view
 leg-ways t wf p goal bound = record {
   roads = λ v r m.
-      let k = leaving-road wf v r (in-keep (allows (limits-of (t .settings) (p .point) .class)) (leaving-roads t v) m .0) in
+      let k = leaving-road wf v r (in-keep (permits (limits-of (t .settings) (p .point) .constraints)) (leaving-roads t v) m .0) in
       let facts = wf .roads r (k .0) in
       record { source = k .1; target = facts .target; metres = facts .metres };
-  penalties = penalty-amount wf;
+  penalties = penalty-amount wf (p .point);
 }
 
 -- ---- two ways of seeking that agree wherever a leg asks

@@ -12,11 +12,13 @@ use lib.Ieee.Bits.{is-true, is-false}
 use lib.Ieee.Fits.{and-l, and-r}
 use Rattle.model.specs.declared.Settings.{Settings}
 use Rattle.model.specs.declared.Row.{Row}
+use Rattle.model.specs.declared.Point.{Point}
 use Rattle.model.specs.declared.Road.{Road}
+use Rattle.model.specs.declared.AStarConstraints.{AStarConstraints}
 use Rattle.model.specs.Numbers.{f0}
 use Rattle.model.specs.Lists.{In, keep, any, all, front, head, last, pad, maybe}
 use Rattle.model.specs.Sheet.{Stop, Sheet, road-at, list-at, leaving-roads}
-use Rattle.model.specs.View.{raised, limits-of, is-slip, allows, View, spot-of, place-of, leg-of, leg-stops, distances-to, view}
+use Rattle.model.specs.View.{raised, limits-of, is-slip, permits, View, spot-of, place-of, leg-of, leg-stops, distances-to, view}
 use Rattle.model.specs.Search.{Searcher, bounded-astar}
 use Rattle.model.specs.Legs.{Coverage}
 use Rattle.model.specs.Decode.{Course, Outcome, outcome}
@@ -58,9 +60,11 @@ or-not false true t n = absurd n
 or-not false false t n = absurd t
 
 -- a limit that is exceeded lets slip roads pass only
-clash : (tolerance limit : ℕ) (r : Road) → T (allows (raised tolerance limit) r) → T (exceeds tolerance limit (r .frc)) → T (not (is-slip r)) → ⊥
-unfolding allows raised exceeds
-clash tolerance limit r t e n =
+clash : (c : Settings) (p : Point) (r : Road) → T (permits (limits-of c p .constraints) r) → T (exceeds (c .«frc_tolerance») (p .limit) (r .frc)) → T (not (is-slip r)) → ⊥
+unfolding permits limits-of raised exceeds
+clash c p r t e n =
+    let tolerance = c .«frc_tolerance» in
+    let limit = p .limit in
     let limited : eqb limit 255 ≡ false = is-false (eqb limit 255) (and-l (not (eqb limit 255)) (ltb (limit + tolerance) (r .frc)) e) in
     let above : limit + tolerance < r .frc = ltb→lt (limit + tolerance) (r .frc) (and-r (not (eqb limit 255)) (ltb (limit + tolerance) (r .frc)) e) in
     let within : r .frc ≤ raised tolerance limit = leb→le (r .frc) (raised tolerance limit) (or-not (leb (r .frc) (raised tolerance limit)) (is-slip r) t n) in
@@ -68,11 +72,8 @@ clash tolerance limit r t e n =
     omega arith
 
 module _ (t : Sheet) where
-  abbrev tolerance : ℕ
-  tolerance = t .settings .«frc_tolerance»
-
-  abbrev class : Stop → ℕ
-  class p = raised tolerance (p .point .limit)
+  abbrev constraints : Stop → AStarConstraints
+  constraints p = limits-of (t .settings) (p .point) .constraints
 
   module _ (i : ℕ) where
     -- what it means that road i is closed, test by test
@@ -93,10 +94,10 @@ module _ (t : Sheet) where
     open-not-closed o = is-false (is-closed t i) o
 
   -- a road that a leg permits is not closed
-  permitted-open : (p : Stop) → In p (leg-stops t) → (i : ℕ) → T (allows (class p) (road-at t i)) → T (is-open t i)
+  permitted-open : (p : Stop) → In p (leg-stops t) → (i : ℕ) → T (permits (constraints p) (road-at t i)) → T (is-open t i)
   unfolding is-open
   permitted-open p m i h = not-T (is-closed t i) (λ c.
-      clash tolerance (p .point .limit) (road-at t i) h (all-at (beyond-limit t i) (closed-beyond i c) m) (closed-away i c))
+      clash (t .settings) (p .point) (road-at t i) h (all-at (beyond-limit t i) (closed-beyond i c) m) (closed-away i c))
 
   -- nor is one that a row names
   named-open : (p : Stop) → In p (t .stops) → (w : Row) → In w (p .rows) → T (is-open t (w .road))
@@ -105,11 +106,11 @@ module _ (t : Sheet) where
       (any-of (λ q. any (λ v. eqb (v .road) (w .road)) (q .rows)) m (any-of (λ v. eqb (v .road) (w .road)) n (eqb-refl (w .road)))))
 
   -- a leg sees no closed road at a node
-  leaving-open : (p : Stop) → In p (leg-stops t) → (v : ℕ) → keep (allows (class p)) (leaving-roads t v) ≡ keep (allows (class p)) (map (road-at t) (keep (is-open t) (list-at t v)))
+  leaving-open : (p : Stop) → In p (leg-stops t) → (v : ℕ) → keep (permits (constraints p)) (leaving-roads t v) ≡ keep (permits (constraints p)) (map (road-at t) (keep (is-open t) (list-at t v)))
   leaving-open p m v =
-      keep-map (road-at t) (allows (class p)) (list-at t v)
-      ∙ ap (map (road-at t)) (keep-keep (λ i. allows (class p) (road-at t i)) (is-open t) (permitted-open p m) (list-at t v))
-      ∙ sym (keep-map (road-at t) (allows (class p)) (keep (is-open t) (list-at t v)))
+      keep-map (road-at t) (permits (constraints p)) (list-at t v)
+      ∙ ap (map (road-at t)) (keep-keep (λ i. permits (constraints p) (road-at t i)) (is-open t) (permitted-open p m) (list-at t v))
+      ∙ sym (keep-map (road-at t) (permits (constraints p)) (keep (is-open t) (list-at t v)))
 
 -- ---- the core of an answer, by the test of the areas and the outcome
 
@@ -144,7 +145,7 @@ module _ (a b : Sheet) (form : Formed a) (h : AlikeSheets a b) where
   unfolding limits-of
   leaving-eq p m v =
       leaving-open a p m v
-      ∙ ap₂ (λ (c : Settings) (rs : List Road). keep (allows (raised (c .«frc_tolerance») (p .point .limit))) rs) (h .settings) (roads-eq v)
+      ∙ ap₂ (λ (c : Settings) (rs : List Road). keep (permits (limits-of c (p .point) .constraints)) rs) (h .settings) (roads-eq v)
       ∙ sym (leaving-open b p (subst (λ (ps : List Stop). In p (front ps)) (h .stops) m) v)
 
   leg-eq : (p : Stop) → In p (leg-stops a) → leg-of a p ≡ leg-of b p
@@ -201,10 +202,10 @@ module _ (a b : Sheet) (form : Formed a) (h : AlikeSheets a b) where
 
       ways : (p : Stop) → In p (leg-stops a) → (u : ℕ) (r : Road) → In r (leg-of a p .leaving u) → Same (r .number)
       ways p m u r n =
-          every-map (λ (r : Road). Same (r .number)) (road-at a) (keep (λ i. allows (class a p) (road-at a i)) (list-at a u)) (λ i j.
-          let k = in-keep (λ i. allows (class a p) (road-at a i)) (list-at a u) j in
+          every-map (λ (r : Road). Same (r .number)) (road-at a) (keep (λ i. permits (constraints a p) (road-at a i)) (list-at a u)) (λ i j.
+          let k = in-keep (λ i. permits (constraints a p) (road-at a i)) (list-at a u) j in
           open-same i (form .lists u i (k .0) .0) (permitted-open a p m i (k .1)))
-          r (subst (In r) (keep-map (road-at a) (allows (class a p)) (list-at a u)) n)
+          r (subst (In r) (keep-map (road-at a) (permits (constraints a p)) (list-at a u)) n)
 
   -- an answer reads the sheet only at the numbers of its path
   fraction-eq : (offset : Float) (path : List ℕ) (o : Option ℕ) → ((x : ℕ) → o ≡ some x → In x path) → Every Same path → offset-fraction a offset o ≡ offset-fraction b offset o

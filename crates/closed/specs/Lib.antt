@@ -1,3 +1,1 @@
 pub mod Closed
-pub mod Sharp
-pub mod SharpParts

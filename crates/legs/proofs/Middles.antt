@@ -11,16 +11,12 @@ use lib.ListN.{length, take, drop, getD, set, List·getD-append}
 use lib.Seq.{length-take-le, getD-take}
 use lib.Ieee.{Float}
 use Rattle.model.specs.declared.Road.{Road}
-use Rattle.model.specs.declared.Counts.{Counts}
-use Rattle.model.specs.declared.Settings.{Settings}
 use Rattle.model.specs.declared.Limits.{Limits}
 use Rattle.model.specs.Numbers.{f0}
-use Rattle.model.specs.Judge.{WellFormed}
 use Rattle.model.specs.Sheet.{Sheet, sheet-of}
 use Rattle.model.specs.View.{view}
-use Rattle.model.specs.Search.{Found, found, bounded-astar, penalty}
+use Rattle.model.specs.Search.{Found, found, bounded-astar}
 use Rattle.model.specs.Decode.{query-of, seek-of}
-use Rattle.bounds.specs.Amounts.{Amount}
 use Rattle.rules.specs.declared.Best.{Best}
 use Rattle.plans.specs.declared.Ask.{Ask}
 use Rattle.plans.specs.declared.Ask.the-variants as A
@@ -30,10 +26,9 @@ use Rattle.plans.specs.declared.State.{State}
 use Rattle.plans.specs.Turns.{by-ask, found-of, count-of, renewed}
 use Rattle.search.specs.declared.Search.{Search}
 use Rattle.search.specs.declared.Search.the-variants as S
-use Rattle.search.specs.Ask.{asked, penalty-by}
+use Rattle.search.specs.Ask.{asked}
 use Rattle.search.specs.Answers.{answer}
 use Rattle.search.specs.Answers as answers
-use Rattle.search.proofs.Roads.{slip-amount, access-amount}
 use Rattle.legs.specs.declared.middle.Way.{Way}
 use Rattle.legs.specs.declared.middle.Way.the-variants as W
 use Rattle.legs.specs.Found.{seek-at, by-way, Roads, Spans, Brief, Fits}
@@ -104,28 +99,24 @@ module _ (x : Search) where
 
 -- ---- the search of a leg
 
--- the penalties of the settings are amounts
-pub amounts : (s : List ℕ) (c : Counts) → WellFormed s c → (set : Settings) → set ≡ sheet-of s c .settings → Amount (set .«slip_road_cost_penalty») × Amount (set .«access_road_cost_penalty»)
-amounts s c w set is = subst (λ (x : Settings). Amount (x .«slip_road_cost_penalty») × Amount (x .«access_road_cost_penalty»)) (sym is) (slip-amount s c w, access-amount s c w)
+module _ (t : Sheet) (slots : ℕ) (b : Limits) (start goal : ℕ) (a : Ask) (w : Way) (between : Between start goal a w) where
+  abbrev seek : Float → Found
+  seek bound = bounded-astar slots (asked t record { start = start; goal = goal; bound = bound; constraints = b .constraints }) start
 
-module _ (t : Sheet) (slots : ℕ) (b : Limits) (set : Settings) (is : set ≡ t .settings) (start goal : ℕ) (a : Ask) (w : Way) (between : Between start goal a w) where
-  abbrev seek : Settings → Float → Found
-  seek x bound = bounded-astar slots (asked t record { start = start; goal = goal; bound = bound; class = b .class; slip = x .«slip_road_cost_penalty»; access = x .«access_road_cost_penalty» }) start
-
-  leg-seek : by-ask (λ bound. cond (eqb start goal) (found f0 []) (seek set bound)) a ≡ by-ask (seek-at t slots b start goal) a
-  unfolding asked penalty-by query-of view penalty seek-at seek-of
-  leg-seek = ap (λ (x : Settings). by-ask (λ bound. cond (eqb start goal) (found f0 []) (seek x bound)) a) is
+  leg-seek : by-ask (λ bound. cond (eqb start goal) (found f0 []) (seek bound)) a ≡ by-ask (seek-at t slots b start goal) a
+  unfolding asked query-of view seek-at seek-of
+  leg-seek = refl
 
   module _ (roads : ℕ → Road) (m : Middle) (area : List ℕ) where
     pub known-found : w ≡ W.Known m → found-of roads m area ≡ by-ask (seek-at t slots b start goal) a
     unfolding by-way
-    known-found e = (rw e at (between roads area (seek set))) ∙ leg-seek
+    known-found e = (rw e at (between roads area seek)) ∙ leg-seek
 
     pub search-found : (bound : Float) (x : Search) → w ≡ W.Within bound → found-of roads m area ≡ answer roads x area
-        → answer roads x area ≡ bounded-astar slots (asked t record { start = start; goal = goal; bound = bound; class = b .class; slip = set .«slip_road_cost_penalty»; access = set .«access_road_cost_penalty» }) start
+        → answer roads x area ≡ bounded-astar slots (asked t record { start = start; goal = goal; bound = bound; constraints = b .constraints }) start
         → found-of roads m area ≡ by-ask (seek-at t slots b start goal) a
     unfolding by-way
-    search-found bound x e means is-found = means ∙ is-found ∙ (rw e at (between roads area (seek set))) ∙ leg-seek
+    search-found bound x e means is-found = means ∙ is-found ∙ (rw e at (between roads area seek)) ∙ leg-seek
 
 pub brief-known : (w : Way) (m : Middle) → w ≡ W.Known m → Brief w → count-of m ≡ 0
 unfolding Brief

@@ -8,11 +8,12 @@ use Rattle.model.specs.declared.Road.{Road}
 use Rattle.model.specs.declared.Limits.{Limits}
 use Rattle.model.specs.Lists.{keep}
 use Rattle.model.specs.Sheet.{Sheet, leaving-roads}
-use Rattle.model.specs.View.{allows, Leg, view}
+use Rattle.model.specs.View.{permits, Leg, view}
 use Rattle.model.specs.Search.{Found, bounded-astar}
 use Rattle.model.specs.Legs.{Seek, best, no-path, heap-full, sought, next-pair}
 use Rattle.model.specs.Legs as legs
 use Rattle.model.specs.Decode.{seek-of}
+use Rattle.bounds.specs.Amounts.{Amount}
 use Rattle.rules.specs.declared.Best.{Best}
 use Rattle.rules.specs.Code.{path-of, best-of}
 use Rattle.plans.specs.declared.Middle.{Middle}
@@ -31,11 +32,15 @@ use Rattle.legs.specs.declared.middle.Way.the-variants as W
 
 -- the leg within these limits
 abbrev pub leg-at : Sheet → Limits → Leg
-leg-at t b = record { limits = b; leaving = λ v. keep (allows (b .class)) (leaving-roads t v) }
+leg-at t b = record { limits = b; leaving = λ v. keep (permits (b .constraints)) (leaving-roads t v) }
 
 -- its searches, with a heap of `slots` entries
 unfoldable pub seek-at : Sheet → ℕ → Limits → Seek
 seek-at t slots b = seek-of (view t) (bounded-astar slots) (leg-at t b)
+
+-- its penalties are amounts, so that labels never fall along a way
+abbrev pub Priced : Limits → Type 0
+Priced b = Amount (b .constraints .«slip_road_cost_penalty») × Amount (b .constraints .«access_road_cost_penalty»)
 
 -- ---- the answers
 

@@ -5,7 +5,6 @@ pub mod tries;
 use candidates::find::Candidates;
 use model::Counts;
 use model::Limits;
-use model::Settings;
 use plans::Phase;
 use plans::State;
 use rules::Best;
@@ -23,7 +22,7 @@ ghost use Rattle.model.specs.Legs.{sought, find-best-path};
 ghost use Rattle.candidates.specs.Found.{held, Ready};
 ghost use Rattle.rules.specs.Code.{best-of};
 ghost use Rattle.search.specs.Areas.{columns, Sized};
-ghost use Rattle.legs.specs.Found.{seek-at, end-of, sought-of, Fits, Holds};
+ghost use Rattle.legs.specs.Found.{seek-at, end-of, sought-of, Priced, Fits, Holds};
 
 // What a leg finds: its best route, whose middle is in the front of an area; no path; or the heap used up.
 pub enum Sought {
@@ -61,7 +60,6 @@ fn ended(st: State) -> Sought
 pub fn find_best_path(
     s: &[u8],
     c: Counts,
-    set: Settings,
     b: Limits,
     starts: Candidates,
     ends: Candidates,
@@ -73,7 +71,7 @@ pub fn find_best_path(
     entries: &mut [f64],
     links: &mut [usize],
 ) -> Sought
-    requires { ⌜ WellFormed (now s) c × (set ≡ sheet-of (now s) c .settings) × (0 < c .n) × Ready c starts × Ready c ends ⌝ }
+    requires { ⌜ WellFormed (now s) c × Priced b × (0 < c .n) × Ready c starts × Ready c ends ⌝ }
     requires { ⌜ (0 < slots) × (c .n ≤ length (now route)) × (c .n ≤ length (now «best_route»)) × Sized (c .n) slots (columns (c .n) slots (now labels) (now «came_from») (now entries) (now links) 0 0) ⌝ }
     ensures means { λ r. ⌜ sought-of (road-at (sheet-of (now (s .entry)) c)) r (now («best_route» .exit))
         ≡ find-best-path b (seek-at (sheet-of (now (s .entry)) c) slots b) (held (sheet-of (now (s .entry)) c) starts) (held (sheet-of (now (s .entry)) c) ends) ⌝ }
@@ -87,7 +85,6 @@ pub fn find_best_path(
     let st = tries::try_pairs(
         s,
         c,
-        set,
         b,
         starts,
         ends,

@@ -1,7 +1,6 @@
 // What lies between two roads of a pair: known without a search, or found by one.
 use model::Counts;
 use model::Limits;
-use model::Settings;
 use plans::Ask;
 use plans::Middle;
 use search::Search;
@@ -21,7 +20,7 @@ ghost use Rattle.plans.specs.Turns.{by-ask, found-of, renewed};
 ghost use Rattle.search.specs.Areas.{columns, Sized};
 ghost use Rattle.search.specs.Answers.{answer};
 ghost use Rattle.search.specs.Answers as answers;
-ghost use Rattle.legs.specs.Found.{seek-at, by-way, Spans, Brief};
+ghost use Rattle.legs.specs.Found.{seek-at, by-way, Priced, Spans, Brief};
 
 // What is known without a search, or the bound of a search.
 pub enum Way {
@@ -59,7 +58,6 @@ fn middle_of(x: Search) -> Middle
 pub fn middle(
     s: &[u8],
     c: Counts,
-    set: Settings,
     b: Limits,
     a: Ask,
     start: usize,
@@ -71,7 +69,7 @@ pub fn middle(
     entries: &mut [f64],
     links: &mut [usize],
 ) -> Middle
-    requires { ⌜ WellFormed (now s) c × (set ≡ sheet-of (now s) c .settings) × (start < c .n) × (goal < c .n) ⌝ }
+    requires { ⌜ WellFormed (now s) c × Priced b × (start < c .n) × (goal < c .n) ⌝ }
     requires { ⌜ (0 < slots) × (c .n ≤ length (now route)) × Sized (c .n) slots (columns (c .n) slots (now labels) (now «came_from») (now entries) (now links) 0 0) ⌝ }
     ensures means { λ m. ⌜ found-of (road-at (sheet-of (now (s .entry)) c)) m (now (route .exit)) ≡ by-ask (seek-at (sheet-of (now (s .entry)) c) slots b start goal) a ⌝ }
     ensures spans { λ m. ⌜ Spans (c .n) (c .e) m (now (route .exit)) ⌝ }
@@ -80,13 +78,12 @@ pub fn middle(
     match known {
         Way::Known(m) => m,
         Way::Within(bound) => {
+            let constraints = b.constraints;
             let ask = search::Ask {
                 start,
                 goal,
                 bound,
-                class: b.class,
-                slip: set.slip_road_cost_penalty,
-                access: set.access_road_cost_penalty,
+                constraints,
             };
             let found = search::bounded_astar(
                 s,

@@ -5,7 +5,6 @@ use candidates::find::Candidates;
 use candidates::find::MOST_TRIED;
 use model::Counts;
 use model::Limits;
-use model::Settings;
 use plans::Phase;
 use plans::State;
 use plans::turns;
@@ -24,13 +23,12 @@ ghost use Rattle.candidates.specs.Found.{at-road, held, Ready};
 ghost use Rattle.rules.specs.Code.{best-of};
 ghost use Rattle.plans.specs.Turns.{turn-of};
 ghost use Rattle.search.specs.Areas.{columns, Sized};
-ghost use Rattle.legs.specs.Found.{seek-at, end-of, place-after, Fits};
+ghost use Rattle.legs.specs.Found.{seek-at, end-of, place-after, Priced, Fits};
 
 // One pair: what it asks for, the search if it asks for one, and what comes of it. The best route's middle is in the front of `best_route`.
 pub fn try_pair(
     s: &[u8],
     c: Counts,
-    set: Settings,
     b: Limits,
     start: Candidate,
     end: Candidate,
@@ -43,7 +41,7 @@ pub fn try_pair(
     entries: &mut [f64],
     links: &mut [usize],
 ) -> State
-    requires { ⌜ WellFormed (now s) c × (set ≡ sheet-of (now s) c .settings) × (start .road < c .e) × (end .road < c .e) × Fits (c .n) (c .e) best (now «best_route») ⌝ }
+    requires { ⌜ WellFormed (now s) c × Priced b × (start .road < c .e) × (end .road < c .e) × Fits (c .n) (c .e) best (now «best_route») ⌝ }
     requires { ⌜ (0 < slots) × (c .n ≤ length (now route)) × (c .n ≤ length (now «best_route»)) × Sized (c .n) slots (columns (c .n) slots (now labels) (now «came_from») (now entries) (now links) 0 0) ⌝ }
     ensures means { λ t. ⌜ turn-of (t .phase) (best-of (road-at (sheet-of (now (s .entry)) c)) (t .best) (now («best_route» .exit)))
         ≡ try-pair b (seek-at (sheet-of (now (s .entry)) c) slots b) (best-of (road-at (sheet-of (now (s .entry)) c)) best (now («best_route» .entry))) (pair (at-road (sheet-of (now (s .entry)) c) start) (at-road (sheet-of (now (s .entry)) c) end)) ⌝ }
@@ -58,7 +56,6 @@ pub fn try_pair(
     let m = middle::middle(
         s,
         c,
-        set,
         b,
         a,
         first.target,
@@ -90,7 +87,6 @@ fn next_place(phase: Phase, t: usize, n: usize) -> usize
 pub fn try_pairs(
     s: &[u8],
     c: Counts,
-    set: Settings,
     b: Limits,
     starts: Candidates,
     ends: Candidates,
@@ -102,7 +98,7 @@ pub fn try_pairs(
     entries: &mut [f64],
     links: &mut [usize],
 ) -> State
-    requires { ⌜ WellFormed (now s) c × (set ≡ sheet-of (now s) c .settings) × Ready c starts × Ready c ends ⌝ }
+    requires { ⌜ WellFormed (now s) c × Priced b × Ready c starts × Ready c ends ⌝ }
     requires { ⌜ (0 < slots) × (c .n ≤ length (now route)) × (c .n ≤ length (now «best_route»)) × Sized (c .n) slots (columns (c .n) slots (now labels) (now «came_from») (now entries) (now links) 0 0) ⌝ }
     ensures means { λ t. ⌜ end-of (road-at (sheet-of (now (s .entry)) c)) t (now («best_route» .exit))
         ≡ try-pairs b (seek-at (sheet-of (now (s .entry)) c) slots b) (sort by-sum (pairs (held (sheet-of (now (s .entry)) c) starts) (held (sheet-of (now (s .entry)) c) ends))) none ⌝ }
@@ -140,7 +136,6 @@ pub fn try_pairs(
         st = try_pair(
             s,
             c,
-            set,
             b,
             first,
             last,

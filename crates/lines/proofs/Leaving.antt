@@ -14,6 +14,7 @@ use Rattle.model.specs.declared.Point.{Point}
 use Rattle.model.specs.Candidates.{Candidate}
 use Rattle.model.specs.declared.Limits.{Limits}
 use Rattle.model.specs.Layout.{points-bytes}
+use Rattle.model.specs.Judge.{WellFormed}
 use Rattle.model.specs.Sheet.{Stop, Sheet, sheet-of, road-at, point-of, stop-of}
 use Rattle.model.specs.View.{limits-of}
 use Rattle.model.specs.Legs.{Coverage, Pair, pairs, leg-pairs, try-same-edge-solution, else-pairs, find-best-path}
@@ -24,8 +25,9 @@ use Rattle.rules.specs.declared.Route.{Route}
 use Rattle.rules.specs.Code.{path-of}
 use Rattle.legs.specs.declared.Sought as legs
 use Rattle.legs.specs.declared.Sought.the-variants as S
-use Rattle.legs.specs.Found.{seek-at, sought-of}
+use Rattle.legs.specs.Found.{seek-at, sought-of, Priced}
 use Rattle.search.specs.Answers.{Numbers}
+use Rattle.search.proofs.Roads.{slip-amount, access-amount}
 use Rattle.courses.specs.Left.{covers, Known, numbers-of, fresh, coverages-at, cover-all}
 use Rattle.courses.proofs.Appended.{numbers-are, numbers-of-roads}
 use Rattle.lines.specs.declared.Walked.{Walked}
@@ -36,6 +38,11 @@ use Rattle.lines.specs.Legs.{leg-limits, leg-sought, KnownAs, Leaves}
 pub limits-are : (s : List ℕ) (c : Counts) (i : ℕ) → i < c .p → (p : Point) → p ≡ point-of (points-bytes s c) i → limits-of (sheet-of s c .settings) p ≡ leg-limits (sheet-of s c) i
 unfolding stop-of
 limits-are s c i h p is = ap (limits-of (sheet-of s c .settings)) (is ∙ ap (λ (x : Stop). x .point) (sym (stop-is s c i h no-stop)))
+
+-- its penalties are those of the settings, which are amounts
+pub priced : (s : List ℕ) (c : Counts) → WellFormed s c → (i : ℕ) {b : Limits} → b ≡ leg-limits (sheet-of s c) i → Priced b
+unfolding limits-of
+priced s c w i e = subst Priced (sym e) (slip-amount s c w, access-amount s c w)
 
 -- of the first ten of two lists a leg tries the same pairs
 same-pairs : (xs ys : List Candidate) → leg-pairs (take 10 xs) (take 10 ys) ≡ leg-pairs xs ys

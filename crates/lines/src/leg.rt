@@ -104,7 +104,6 @@ pub fn walk_leg(
     let found = legs::find_best_path(
         s,
         c,
-        set,
         b,
         starts,
         ends,

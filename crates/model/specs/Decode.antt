@@ -10,15 +10,15 @@ use Rattle.model.specs.declared.Road.{Road}
 use Rattle.model.specs.Numbers.{_⊕_, _<ᶠ_, _≤ᶠ_, f0}
 use Rattle.model.specs.Lists.{last, maybe, fold}
 use Rattle.model.specs.Layout.{point-along-line}
-use Rattle.model.specs.View.{Leg, View}
+use Rattle.model.specs.View.{penalty, Leg, View}
 use Rattle.model.specs.Candidates.{Candidate, find-candidates, closest-point}
-use Rattle.model.specs.Search.{Query, Searcher, found, penalty}
+use Rattle.model.specs.Search.{Query, Searcher, found}
 use Rattle.model.specs.Legs.{Coverage, Route, Sought, best, no-path, heap-full, Seek, find-best-path}
 
 -- ---- the searches of a leg
 
 unfoldable pub query-of : View → Leg → ℕ → Float → Query
-query-of v leg goal bound = record { nodes = v .nodes; leaving = leg .leaving; penalty = penalty (v .settings); ahead = v .to-goal goal; goal = goal; bound = bound }
+query-of v leg goal bound = record { nodes = v .nodes; leaving = leg .leaving; penalty = penalty (leg .limits .constraints); ahead = v .to-goal goal; goal = goal; bound = bound }
 
 -- start equal to goal costs 0 without roads, and makes no search
 unfoldable pub seek-of : View → Searcher → Leg → Seek

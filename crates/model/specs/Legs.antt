@@ -11,7 +11,7 @@ use Rattle.model.specs.Candidates.{Candidate}
 use Rattle.model.specs.declared.Limits.{Limits}
 use Rattle.model.specs.Numbers.{_⊕_, _⊖_, _⊗_, _⊘_, _<ᶠ_, _≤ᶠ_, fmax, fabs, f0, f1, f3, f5, f10, min-edge-contribution, greatest-float}
 use Rattle.model.specs.Lists.{when, fold, sort}
-use Rattle.model.specs.View.{allows}
+use Rattle.model.specs.View.{permits}
 use Rattle.model.specs.Search.{Found, found, none-found, full}
 
 -- ---- routes and their scores
@@ -119,7 +119,7 @@ leg-pairs xs ys = pairs (take most-tried xs) (take most-tried ys)
 
 -- both within 10 m (10 included) of one road that the leg may use
 unfoldable pub close : Limits → Pair → Bool
-close b p = p .start .distance ≤ᶠ f10 && p .end .distance ≤ᶠ f10 && same-road p && allows (b .class) (p .start .road)
+close b p = p .start .distance ≤ᶠ f10 && p .end .distance ≤ᶠ f10 && same-road p && permits (b .constraints) (p .start .road)
 
 unfoldable pub take-close : Limits → Option Scored → Pair → Option Scored
 take-close b best p = cond (close b p) (first-or-better best (on-one-road b p)) best
@@ -193,7 +193,7 @@ middle-max b p = b .reach ⊖ start-part p ⊖ end-part p
 -- A pair whose roads the leg may not use is skipped, and so is one with a bound of 0 or less.
 unfoldable pub asked : Limits → Pair → Asked
 asked b p =
-    cond (not (allows (b .class) (p .start .road) && allows (b .class) (p .end .road))) nothing
+    cond (not (permits (b .constraints) (p .start .road) && permits (b .constraints) (p .end .road))) nothing
     (cond (same-road p) (alone (on-one-road b p))
     (cond (middle-max b p ≤ᶠ f0) nothing (across (middle-max b p))))
 

@@ -11,12 +11,10 @@ use mathlib.Core.List.{List, [], _∷_, _++_}
 use lib.Dec.{eqb, ltb}
 use lib.ListN.{length, getD, set, replicate}
 use lib.Ieee.{Float}
-use Rattle.model.specs.declared.Settings.{Settings}
 use Rattle.model.specs.declared.Road.{Road}
 use Rattle.model.specs.Numbers.{_⊕_, _<ᶠ_, _≤ᶠ_, f0}
 use Rattle.model.specs.Lists.{when, maybe}
 use Rattle.model.specs.Heap.{push, pop}
-use Rattle.model.specs.View.{is-slip}
 
 -- What a search is asked: the way to `goal`, no path longer than `bound` metres, `ahead v` being the distance from v to the goal.
 pub record Query : Type 0 where
@@ -32,10 +30,6 @@ pub data Found : Type 0 where
   found : Float → List Road → Found
   none-found : Found
   full : Found
-
--- slip wins over access
-unfoldable pub penalty : Settings → Road → Float
-penalty c r = cond (is-slip r) (c .«slip_road_cost_penalty») (cond (r .access) (c .«access_road_cost_penalty») f0)
 
 -- ---- the state
 

@@ -9,6 +9,7 @@ use Rattle.model.specs.declared.Settings.{Settings}
 use Rattle.model.specs.declared.Point.{Point}
 use Rattle.model.specs.declared.Row.{Row}
 use Rattle.model.specs.declared.Road.{Road}
+use Rattle.model.specs.declared.AStarConstraints.{AStarConstraints}
 use Rattle.model.specs.declared.Limits.{Limits}
 use Rattle.model.specs.Numbers.{_⊕_, _⊖_, _⊗_, fmin, fmax, f0, f1, f500}
 use Rattle.model.specs.Lists.{keep, front}
@@ -38,15 +39,23 @@ limits-of c p = record {
   least = min-distance c (p .dnp);
   greatest = max-valid-distance c (p .dnp);
   reach = max-search-distance c (p .dnp);
-  class = raised (c .«frc_tolerance») (p .limit);
+  constraints = record {
+    «max_frc» = raised (c .«frc_tolerance») (p .limit);
+    «slip_road_cost_penalty» = c .«slip_road_cost_penalty»;
+    «access_road_cost_penalty» = c .«access_road_cost_penalty»;
+  };
 }
 
 abbrev pub is-slip : Road → Bool
 is-slip r = eqb (r .fow) 6
 
 -- a leg may use the road: its class is within the raised limit, or it is a slip road
-unfoldable pub allows : ℕ → Road → Bool
-allows class r = leb (r .frc) class || is-slip r
+unfoldable pub permits : AStarConstraints → Road → Bool
+permits k r = leb (r .frc) (k .«max_frc») || is-slip r
+
+-- what a road costs beside its length; slip wins over access
+unfoldable pub penalty : AStarConstraints → Road → Float
+penalty k r = cond (is-slip r) (k .«slip_road_cost_penalty») (cond (r .access) (k .«access_road_cost_penalty») f0)
 
 -- ---- the view
 
@@ -83,7 +92,7 @@ place-of t p = record { point = p .point; spots = map (spot-of t) (p .rows) }
 abbrev pub leg-of : Sheet → Stop → Leg
 leg-of t p =
     let limits = limits-of (t .settings) (p .point) in
-    record { limits = limits; leaving = λ v. keep (allows (limits .class)) (leaving-roads t v) }
+    record { limits = limits; leaving = λ v. keep (permits (limits .constraints)) (leaving-roads t v) }
 
 -- the stops that a leg starts from
 abbrev pub leg-stops : Sheet → List Stop

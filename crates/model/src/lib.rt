@@ -72,13 +72,20 @@ pub struct Road {
     pub access: bool,
 }
 
-// What a leg accepts: its DNP, the least and the greatest length, how far its searches go, and the raised class limit.
+// What binds the roads of a leg: the raised class limit, 255 for none, and the metres that a slip road or an access road costs beside its length.
+pub struct AStarConstraints {
+    pub max_frc: u8,
+    pub slip_road_cost_penalty: f64,
+    pub access_road_cost_penalty: f64,
+}
+
+// What a leg accepts: its DNP, the least and the greatest length, how far its searches go, and what binds its roads.
 pub struct Limits {
     pub dnp: f64,
     pub least: f64,
     pub greatest: f64,
     pub reach: f64,
-    pub class: u8,
+    pub constraints: AStarConstraints,
 }
 
 // A neighbour of a node, with the roads in from it and out to it.

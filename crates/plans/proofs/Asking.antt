@@ -5,20 +5,20 @@ use borrow.Author.Tests.{eq-eqb, ne-eqb}
 use lib.Ieee.{Float}
 use Rattle.model.specs.declared.Limits.{Limits}
 use Rattle.model.specs.Numbers.{_≤ᶠ_, f0}
-use Rattle.model.specs.View.{allows}
+use Rattle.model.specs.View.{permits}
 use Rattle.model.specs.Legs.{Pair, nothing, alone, across, asked, on-one-road, middle-max}
 
 module _ (b : Limits) (p : Pair) where
-  pub asked-start : allows (b .class) (p .start .road) ≡ false → nothing ≡ asked b p
+  pub asked-start : permits (b .constraints) (p .start .road) ≡ false → nothing ≡ asked b p
   unfolding asked
   asked-start e = rw (e, asked)
 
-  module _ (s : allows (b .class) (p .start .road) ≡ true) where
-    pub asked-end : allows (b .class) (p .end .road) ≡ false → nothing ≡ asked b p
+  module _ (s : permits (b .constraints) (p .start .road) ≡ true) where
+    pub asked-end : permits (b .constraints) (p .end .road) ≡ false → nothing ≡ asked b p
     unfolding asked
     asked-end e = rw (s, e, asked)
 
-    module _ (t : allows (b .class) (p .end .road) ≡ true) where
+    module _ (t : permits (b .constraints) (p .end .road) ≡ true) where
       pub asked-alone : p .start .road .number ≡ p .end .road .number → alone (on-one-road b p) ≡ asked b p
       unfolding asked
       asked-alone e = rw (s, t, eq-eqb (p .start .road .number) (p .end .road .number) e, asked)

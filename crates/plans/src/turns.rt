@@ -28,10 +28,10 @@ use rules::routes;
 pub fn plan(b: Limits, start: Candidate, first: Road, end: Candidate, last: Road) -> Plan
     ensures { λ r. ⌜ ((roads : ℕ → Road) → asked-of roads r ≡ asked b (pair-as start first end last)) ⌝ }
 {
-    if !road_class::allows(b.class, first) {
+    if !road_class::permits(b.constraints, first) {
         return Plan::Nothing;
     }
-    if !road_class::allows(b.class, last) {
+    if !road_class::permits(b.constraints, last) {
         return Plan::Nothing;
     }
     if first.number == last.number {

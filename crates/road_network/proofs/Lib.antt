@@ -7,5 +7,6 @@ pub mod DrawingProof
 pub mod Runs
 pub mod Settling
 pub mod Kept
+pub mod Marks
 pub mod Forks
 pub mod Ways

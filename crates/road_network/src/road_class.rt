@@ -1,9 +1,11 @@
 // Road classes and forms of way: what counts as an access road, how forms stand in for each other, how far classes lie apart and which roads a leg may use.
 ghost use mathlib.Core.Path.{_≡_};
+ghost use mathlib.Core.Bool.{cond};
 ghost use Prim.Native.Nat.{_≤_};
 ghost use Rattle.model.specs.Candidates.{same-bytes, is-access-road, substitution-score, class-difference};
-ghost use Rattle.model.specs.View.{raised, allows};
+ghost use Rattle.model.specs.View.{raised, permits, penalty};
 ghost use Rattle.road_network.specs.Forms.{entry-score};
+use model::AStarConstraints;
 use model::Road;
 
 // Whether two slices hold the same bytes.
@@ -95,9 +97,26 @@ pub fn raised(tolerance: u8, limit: u8) -> u8
     if sum < 7 { sum as u8 } else { 7 }
 }
 
-// Whether a leg with this raised limit may use the road: by its class, or as a slip road.
-pub fn allows(class: u8, r: Road) -> bool
-    ensures { λ b. ⌜ b ≡ allows class r ⌝ }
+// Whether a leg may use road r: its class is within the limit, or it is a slip road.
+pub fn permits(k: AStarConstraints, r: Road) -> bool
+    ensures { λ b. ⌜ b ≡ permits k r ⌝ }
 {
-    r.frc <= class || r.fow == 6
+    r.frc <= k.max_frc || r.fow == 6
+}
+
+// n where a mark is set, else 0.
+fn weight(set: bool, n: usize) -> usize
+    ensures { λ r. ⌜ (r ≡ cond set n 0) × (r ≤ n) ⌝ }
+{
+    if set { n } else { 0 }
+}
+
+// What a road costs beside its length: slip wins over access. Four values by two marks, without a branch.
+pub fn penalty(k: AStarConstraints, r: Road) -> f64
+    ensures { λ p. ⌜ p ≡ penalty k r ⌝ }
+{
+    let slip = k.slip_road_cost_penalty;
+    let by_marks = [0.0, k.access_road_cost_penalty, slip, slip];
+    let at = weight(r.fow == 6, 2) + weight(r.access, 1);
+    by_marks[at]
 }

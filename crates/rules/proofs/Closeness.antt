@@ -5,7 +5,7 @@ use mathlib.Core.Option.{Option}
 use borrow.Author.Tests.{eq-eqb, ne-eqb}
 use Rattle.model.specs.declared.Limits.{Limits}
 use Rattle.model.specs.Numbers.{_≤ᶠ_, f10}
-use Rattle.model.specs.View.{allows}
+use Rattle.model.specs.View.{permits}
 use Rattle.model.specs.Legs.{Pair, Scored, on-one-road, first-or-better, close, take-close}
 
 module _ (b : Limits) (p : Pair) where
@@ -23,7 +23,7 @@ module _ (b : Limits) (p : Pair) where
       unfolding close
       close-apart e = rw (s, t, ne-eqb (p .start .road .number) (p .end .road .number) e, close)
 
-      pub close-both : p .start .road .number ≡ p .end .road .number → allows (b .class) (p .start .road) ≡ close b p
+      pub close-both : p .start .road .number ≡ p .end .road .number → permits (b .constraints) (p .start .road) ≡ close b p
       unfolding close
       close-both e = rw (s, t, eq-eqb (p .start .road .number) (p .end .road .number) e, close)
 

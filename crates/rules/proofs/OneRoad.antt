@@ -14,7 +14,7 @@ use Rattle.model.specs.Candidates.{Candidate}
 use Rattle.model.specs.declared.Limits.{Limits}
 use Rattle.model.specs.Numbers.{_≤ᶠ_, f10}
 use Rattle.model.specs.Lists.{fold}
-use Rattle.model.specs.View.{allows}
+use Rattle.model.specs.View.{permits}
 use Rattle.model.specs.Legs.{Pair, Scored, pair, pairs, close, take-close, try-same-edge-solution}
 use Rattle.model.proofs.Members.{getD-map}
 use Rattle.candidates.specs.Found.{no-candidate, tried}
@@ -47,7 +47,7 @@ module _ (b : Limits) (x : Candidate) (ys : List Candidate) (old : Option Scored
     pub end-apart : (getD ys j no-candidate .road .number ≡ x .road .number → ⊥) → best ≡ fold (take-close b) old (take (j + 1) (map (pair x) ys))
     unfolding close
     end-apart n =
-        close-left b (pair x (getD ys j no-candidate)) best (third-false (x .distance ≤ᶠ f10) (getD ys j no-candidate .distance ≤ᶠ f10) (eqb (x .road .number) (getD ys j no-candidate .road .number)) (allows (b .class) (x .road)) (ne-eqb (x .road .number) (getD ys j no-candidate .road .number) (λ q. n (sym q))))
+        close-left b (pair x (getD ys j no-candidate)) best (third-false (x .distance ≤ᶠ f10) (getD ys j no-candidate .distance ≤ᶠ f10) (eqb (x .road .number) (getD ys j no-candidate .road .number)) (permits (b .constraints) (x .road)) (ne-eqb (x .road .number) (getD ys j no-candidate .road .number) (λ q. n (sym q))))
         ∙ end-taken
 
   pub ends-done : (j : ℕ) → length ys ≤ j → (best : Option Scored) → best ≡ fold (take-close b) old (take j (map (pair x) ys)) → best ≡ fold (take-close b) old (map (pair x) ys)

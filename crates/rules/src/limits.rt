@@ -2,6 +2,7 @@
 ghost use mathlib.Core.Path.{_≡_};
 ghost use Rattle.model.specs.View.{max-valid-distance, min-distance, max-search-distance, limits-of};
 use crate::floats;
+use model::AStarConstraints;
 use model::Limits;
 use model::Point;
 use model::Settings;
@@ -39,12 +40,16 @@ pub fn limits_of(c: Settings, p: Point) -> Limits
     let least = min_distance(c, p.dnp);
     let greatest = max_valid_distance(c, p.dnp);
     let reach = max_search_distance(c, p.dnp);
-    let class = road_class::raised(c.frc_tolerance, p.limit);
+    let max_frc = road_class::raised(c.frc_tolerance, p.limit);
     Limits {
         dnp: p.dnp,
         least,
         greatest,
         reach,
-        class,
+        constraints: AStarConstraints {
+            max_frc,
+            slip_road_cost_penalty: c.slip_road_cost_penalty,
+            access_road_cost_penalty: c.access_road_cost_penalty,
+        },
     }
 }

@@ -29,7 +29,7 @@ fn close(b: Limits, start: Candidate, first: Road, end: Candidate, last: Road) -
         return false;
     }
     if first.number == last.number {
-        return road_class::allows(b.class, first);
+        return road_class::permits(b.constraints, first);
     }
     false
 }

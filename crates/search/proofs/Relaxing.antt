@@ -8,10 +8,11 @@ use mathlib.Core.List.{List, _∷_}
 use native.Mathlib.Omega.{arith}
 use lib.ListN.{getD}
 use lib.Ieee.{Float, nan}
+use Rattle.model.specs.declared.AStarConstraints.{AStarConstraints}
 use Rattle.model.specs.declared.Road.{Road}
 use Rattle.model.specs.Lists.{keep, tab, maybe}
 use Rattle.model.specs.Sheet.{Sheet}
-use Rattle.model.specs.View.{allows}
+use Rattle.model.specs.View.{permits, penalty}
 use Rattle.model.specs.Search.{Query, Entry, State, real-of, offered, entered, relax, relax-all}
 use Rattle.model.proofs.Members.{keep-yes, keep-no}
 use Rattle.search.specs.declared.Ask.{Ask}
@@ -19,7 +20,7 @@ use Rattle.search.specs.declared.offers.Offer.{Offer}
 use Rattle.search.specs.declared.offers.Offer.the-variants as O
 use Rattle.search.specs.declared.relax.Relaxed.{Relaxed}
 use Rattle.search.specs.declared.relax.Relaxed.the-variants as R
-use Rattle.search.specs.Ask.{penalty-by, asked}
+use Rattle.search.specs.Ask.{asked}
 use Rattle.search.specs.Areas.{unreached, marked, labels-of, entry-from, Columns, state-of, Kept}
 use Rattle.search.specs.Answers.{new-label, Sees, outcome, After}
 use Rattle.search.proofs.Tables.{tab-next, tab-none}
@@ -28,7 +29,7 @@ use Rattle.search.proofs.Growth.{kept-on}
 
 -- what an offer over r from node u reads in the areas
 pub sees-areas : (t : Sheet) (ask : Ask) (roads : ℕ → Road) (n : ℕ) (real penalised : List Float) (came : List ℕ) (u : ℕ) (cost : Float) (r : Road) {extra x y : Float}
-    → u < n → getD came u 0 ≢ unreached → r .target < n → extra ≡ penalty-by (ask .slip) (ask .access) r → getD real u nan ≡ x → getD penalised (r .target) nan ≡ y
+    → u < n → getD came u 0 ≢ unreached → r .target < n → extra ≡ penalty (ask .constraints) r → getD real u nan ≡ x → getD penalised (r .target) nan ≡ y
     → Sees (asked t ask) (entry-from u cost) (labels-of roads n real penalised came) r (ask .bound) x cost extra y (getD came (r .target) 0)
 unfolding asked
 sees-areas t ask roads n real penalised came u cost r inside reached target is p q = record {
@@ -53,42 +54,42 @@ module _ (slots : ℕ) (q : Query) (e : Entry) (st : State) (r : Road) {o : Offe
 -- ---- all roads of a node's part
 
 -- What is left of the part from place i on gives `goal` from the areas a; those at the beginning were a₀.
-pub record Rest (n e slots : ℕ) (q : Query) (x : Entry) (roads : ℕ → Road) (class : ℕ) (place : ℕ → ℕ) (end : ℕ) (goal : Option State) (a₀ a : Columns) (i : ℕ) : Type 0 where
+pub record Rest (n e slots : ℕ) (q : Query) (x : Entry) (roads : ℕ → Road) (k : AStarConstraints) (place : ℕ → ℕ) (end : ℕ) (goal : Option State) (a₀ a : Columns) (i : ℕ) : Type 0 where
   pub kept : Kept n e slots a₀ a
   pub to : i ≤ end
-  pub same : relax-all slots q x (keep (allows class) (tab (end - i) i (λ j. roads (place j)))) (state-of roads n a) ≡ goal
+  pub same : relax-all slots q x (keep (permits k) (tab (end - i) i (λ j. roads (place j)))) (state-of roads n a) ≡ goal
 
 -- At its beginning the part is all that leaves node u.
-pub rest-start : {n e slots : ℕ} {q : Query} (x : Entry) {roads : ℕ → Road} {class : ℕ} {place : ℕ → ℕ} {a : Columns} (u : ℕ) {from i till end : ℕ}
-    → Kept n e slots a a → i ≡ from → end ≡ till → from ≤ till → q .leaving u ≡ keep (allows class) (tab (till - from) from (λ j. roads (place j)))
-    → Rest n e slots q x roads class place end (relax-all slots q x (q .leaving u) (state-of roads n a)) a a i
+pub rest-start : {n e slots : ℕ} {q : Query} (x : Entry) {roads : ℕ → Road} {k : AStarConstraints} {place : ℕ → ℕ} {a : Columns} (u : ℕ) {from i till end : ℕ}
+    → Kept n e slots a a → i ≡ from → end ≡ till → from ≤ till → q .leaving u ≡ keep (permits k) (tab (till - from) from (λ j. roads (place j)))
+    → Rest n e slots q x roads k place end (relax-all slots q x (q .leaving u) (state-of roads n a)) a a i
 rest-start x u kept f t rise ways = record { kept = kept; to = omega arith; same = rw (f, t, ways) }
 
-module _ {n e slots : ℕ} {q : Query} {x : Entry} {roads : ℕ → Road} {class : ℕ} {place : ℕ → ℕ} {end : ℕ} {goal : Option State} {a₀ a : Columns} {i : ℕ} (w : Rest n e slots q x roads class place end goal a₀ a i) where
+module _ {n e slots : ℕ} {q : Query} {x : Entry} {roads : ℕ → Road} {k : AStarConstraints} {place : ℕ → ℕ} {end : ℕ} {goal : Option State} {a₀ a : Columns} {i : ℕ} (w : Rest n e slots q x roads k place end goal a₀ a i) where
   pub rest-end : end ≤ i → some (state-of roads n a) ≡ goal
   unfolding relax-all keep
-  rest-end h = sym (ap (λ (rs : List Road). relax-all slots q x (keep (allows class) rs) (state-of roads n a)) (tab-none end i (λ j. roads (place j)) h)) ∙ w .same
+  rest-end h = sym (ap (λ (rs : List Road). relax-all slots q x (keep (permits k) rs) (state-of roads n a)) (tab-none end i (λ j. roads (place j)) h)) ∙ w .same
 
   -- the road r at place i
   module _ (h : i < end) {r : Road} (here : r ≡ roads (place i)) where
     abbrev others : List Road
     others = tab (end - (i + 1)) (i + 1) (λ j. roads (place j))
 
-    next : relax-all slots q x (keep (allows class) (r ∷ others)) (state-of roads n a) ≡ goal
-    next = sym (ap (λ (rs : List Road). relax-all slots q x (keep (allows class) rs) (state-of roads n a)) (tab-next end i (λ j. roads (place j)) h ∙ ap (λ (y : Road). y ∷ others) (sym here))) ∙ w .same
+    next : relax-all slots q x (keep (permits k) (r ∷ others)) (state-of roads n a) ≡ goal
+    next = sym (ap (λ (rs : List Road). relax-all slots q x (keep (permits k) rs) (state-of roads n a)) (tab-next end i (λ j. roads (place j)) h ∙ ap (λ (y : Road). y ∷ others) (sym here))) ∙ w .same
 
-    pub rest-skip : allows class r ≡ false → Rest n e slots q x roads class place end goal a₀ a (i + 1)
-    rest-skip shut = record { kept = w .kept; to = omega arith; same = sym (ap (λ (rs : List Road). relax-all slots q x rs (state-of roads n a)) (keep-no (allows class) r others shut)) ∙ next }
+    pub rest-skip : permits k r ≡ false → Rest n e slots q x roads k place end goal a₀ a (i + 1)
+    rest-skip shut = record { kept = w .kept; to = omega arith; same = sym (ap (λ (rs : List Road). relax-all slots q x rs (state-of roads n a)) (keep-no (permits k) r others shut)) ∙ next }
 
-    module _ (pass : allows class r ≡ true) (o : Relaxed) (b : ℕ → ℕ → Columns) (after : After n e slots a o b) (is : outcome o (λ l m. state-of roads n (b l m)) ≡ relax slots q x (state-of roads n a) r) where
-      then : maybe (outcome o (λ l m. state-of roads n (b l m))) none (relax-all slots q x (keep (allows class) others)) ≡ goal
+    module _ (pass : permits k r ≡ true) (o : Relaxed) (b : ℕ → ℕ → Columns) (after : After n e slots a o b) (is : outcome o (λ l m. state-of roads n (b l m)) ≡ relax slots q x (state-of roads n a) r) where
+      then : maybe (outcome o (λ l m. state-of roads n (b l m))) none (relax-all slots q x (keep (permits k) others)) ≡ goal
       unfolding relax-all
       then =
-          ap (λ (k : Option State). maybe k none (relax-all slots q x (keep (allows class) others))) is
-          ∙ sym (ap (λ (rs : List Road). relax-all slots q x rs (state-of roads n a)) (keep-yes (allows class) r others pass))
+          ap (λ (o : Option State). maybe o none (relax-all slots q x (keep (permits k) others))) is
+          ∙ sym (ap (λ (rs : List Road). relax-all slots q x rs (state-of roads n a)) (keep-yes (permits k) r others pass))
           ∙ next
 
-      pub rest-done : {l m : ℕ} → o ≡ R.Done l m → Rest n e slots q x roads class place end goal a₀ (b l m) (i + 1)
+      pub rest-done : {l m : ℕ} → o ≡ R.Done l m → Rest n e slots q x roads k place end goal a₀ (b l m) (i + 1)
       unfolding maybe
       rest-done done = record { kept = kept-on (w .kept) (rw done at after); to = omega arith; same = rw done at then }
 

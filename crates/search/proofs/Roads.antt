@@ -11,8 +11,7 @@ use Rattle.model.specs.Layout.{most-roads}
 use Rattle.model.specs.Lists.{keep, tab}
 use Rattle.model.specs.Judge.{WellFormed, source-of, start-of, entry-of}
 use Rattle.model.specs.Sheet.{Stop, Sheet, sheet-of, road-at, leaving-roads}
-use Rattle.model.specs.View.{is-slip, allows, limits-of, leg-of, view}
-use Rattle.model.specs.Search.{penalty}
+use Rattle.model.specs.View.{is-slip, permits, penalty, limits-of, leg-of, view}
 use Rattle.model.specs.Decode.{query-of}
 use Rattle.model.proofs.Members.{either, in-keep}
 use Rattle.model.proofs.Fields.{source-below}
@@ -28,7 +27,7 @@ use Rattle.sheet.specs.Goals.{goal-at, GoalOf}
 use Rattle.sheet.proofs.Parts.{leaving-are}
 use Rattle.sheet.proofs.GoalLaws.{to-goal-at, to-goal-missing}
 use Rattle.search.specs.declared.Ask.{Ask}
-use Rattle.search.specs.Ask.{penalty-by, asked, Ready}
+use Rattle.search.specs.Ask.{asked, Ready}
 
 module _ (s : List ℕ) (c : Counts) (w : WellFormed s c) where
   -- a mark is no road's number
@@ -47,19 +46,19 @@ module _ (s : List ℕ) (c : Counts) (w : WellFormed s c) where
 
   -- the ways from node u stand in its part of the lists
   pub ways-of : (a : Ask) (u : ℕ) → u < c .n
-      → asked (sheet-of s c) a .leaving u ≡ keep (allows (a .class)) (tab (start-of s c (u + 1) - start-of s c u) (start-of s c u) (λ j. road-at (sheet-of s c) (entry-of s c j)))
+      → asked (sheet-of s c) a .leaving u ≡ keep (permits (a .constraints)) (tab (start-of s c (u + 1) - start-of s c u) (start-of s c u) (λ j. road-at (sheet-of s c) (entry-of s c j)))
   unfolding asked
-  ways-of a u h = ap (keep (allows (a .class))) (leaving-are s c w u h)
+  ways-of a u h = ap (keep (permits (a .constraints))) (leaving-are s c w u h)
 
   -- with penalties that are amounts, as those of the settings are
-  pub asked-ways : (a : Ask) → Amount (a .slip) → Amount (a .access) → Ways (asked (sheet-of s c) a)
-  unfolding asked penalty-by
+  pub asked-ways : (a : Ask) → Amount (a .constraints .«slip_road_cost_penalty») → Amount (a .constraints .«access_road_cost_penalty») → Ways (asked (sheet-of s c) a)
+  unfolding asked penalty
   asked-ways a slip access =
       let t = sheet-of s c in
       let formed = well-formed-formed s c w in
       record {
         roads = λ v r m.
-            let k = leaving-road formed v r (in-keep (allows (a .class)) (leaving-roads t v) m .0) in
+            let k = leaving-road formed v r (in-keep (permits (a .constraints)) (leaving-roads t v) m .0) in
             let facts = formed .roads r (k .0) in
             record { source = k .1; target = facts .target; metres = facts .metres };
         penalties = λ r. either Amount (is-slip r) slip (either Amount (r .access) access zero-amount);
@@ -71,11 +70,11 @@ module _ (s : List ℕ) (c : Counts) (w : WellFormed s c) where
   pub access-amount : Amount (sheet-of s c .settings .«access_road_cost_penalty»)
   access-amount = finite-amount _ (well-formed-formed s c w .access)
 
--- The query of a leg, when the ask has the leg's class and the penalties of the settings.
+-- The query of a leg, when the ask has the leg's constraints.
 pub asked-leg : (t : Sheet) (p : Stop) (start goal : ℕ) (bound : Float)
-    → asked t record { start = start; goal = goal; bound = bound; class = limits-of (t .settings) (p .point) .class; slip = t .settings .«slip_road_cost_penalty»; access = t .settings .«access_road_cost_penalty» }
+    → asked t record { start = start; goal = goal; bound = bound; constraints = limits-of (t .settings) (p .point) .constraints }
     ≡ query-of (view t) (leg-of t p) goal bound
-unfolding asked penalty-by query-of view penalty
+unfolding asked query-of view
 asked-leg t p start goal bound = refl
 
 -- The goal's row has the distances of the query.

@@ -29,7 +29,7 @@ stands-room n e slots goal P.Looking a h = h .room
 stands-room n e slots goal P.Found a h = h .0 .room
 stands-room n e slots goal P.Full a h = h .0
 
-module _ (s : List ℕ) (c : Counts) (w : WellFormed s c) (ask : Ask) (slots : ℕ) (start : ask .start < c .n) (goal : ask .goal < c .n) (one : 0 < slots) (slip : Amount (ask .slip)) (access : Amount (ask .access)) where
+module _ (s : List ℕ) (c : Counts) (w : WellFormed s c) (ask : Ask) (slots : ℕ) (start : ask .start < c .n) (goal : ask .goal < c .n) (one : 0 < slots) (slip : Amount (ask .constraints .«slip_road_cost_penalty»)) (access : Amount (ask .constraints .«access_road_cost_penalty»)) where
   abbrev t : Sheet
   t = sheet-of s c
 

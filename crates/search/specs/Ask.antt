@@ -1,30 +1,22 @@
 -- What a search over a sheet is asked, as the definition's query.
 use Prim.Native.Nat.{ℕ}
-use mathlib.Core.Bool.{cond}
 use mathlib.Core.List.{List}
-use lib.Ieee.{Float}
 use Rattle.model.specs.declared.Counts.{Counts}
-use Rattle.model.specs.declared.Road.{Road}
-use Rattle.model.specs.Numbers.{f0}
 use Rattle.model.specs.Lists.{keep}
 use Rattle.model.specs.Judge.{WellFormed}
 use Rattle.model.specs.Sheet.{Sheet, sheet-of, leaving-roads}
-use Rattle.model.specs.View.{is-slip, allows, view}
+use Rattle.model.specs.View.{permits, penalty, view}
 use Rattle.model.specs.Search.{Query}
 use Rattle.sheet.specs.declared.distances.GoalRow.{GoalRow}
 use Rattle.sheet.specs.Goals.{GoalOf}
 use Rattle.search.specs.declared.Ask.{Ask}
 
--- what a road costs beside its length; slip wins over access
-unfoldable pub penalty-by : Float → Float → Road → Float
-penalty-by slip access r = cond (is-slip r) slip (cond (r .access) access f0)
-
--- the roads of the sheet within the class limit, or slip roads, and the distances of the goal's row
+-- the roads of the sheet that the constraints permit, and the distances of the goal's row
 unfoldable pub asked : Sheet → Ask → Query
 asked t a = record {
   nodes = t .nodes;
-  leaving = λ v. keep (allows (a .class)) (leaving-roads t v);
-  penalty = penalty-by (a .slip) (a .access);
+  leaving = λ v. keep (permits (a .constraints)) (leaving-roads t v);
+  penalty = penalty (a .constraints);
   ahead = view t .to-goal (a .goal);
   goal = a .goal;
   bound = a .bound;

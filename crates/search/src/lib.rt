@@ -7,6 +7,7 @@ pub mod route;
 mod turns;
 
 use crate::turns::Turn;
+use model::AStarConstraints;
 use model::Counts;
 use sheet::distances;
 ghost use mathlib.Core.Path.{_≡_};
@@ -20,14 +21,12 @@ ghost use Rattle.search.specs.Ask.{asked, query-at};
 ghost use Rattle.search.specs.Areas.{columns, labels-at, Sized};
 ghost use Rattle.search.specs.Answers.{Stands, ended, answer, Holds};
 
-// What a search is asked: the way from `start` to `goal`, no path longer than `bound` metres, over roads within the raised class limit, with the penalties of slip and of access roads.
+// What a search is asked: the way from `start` to `goal`, no path longer than `bound` metres, under the constraints of its leg.
 pub struct Ask {
     pub start: usize,
     pub goal: usize,
     pub bound: f64,
-    pub class: u8,
-    pub slip: f64,
-    pub access: f64,
+    pub constraints: AStarConstraints,
 }
 
 // How a search ends: with the real cost and the number of roads, with no way, or with no slot left for an entry.
@@ -80,7 +79,7 @@ pub fn bounded_astar(
     entries: &mut [f64],
     links: &mut [usize],
 ) -> Searched
-    requires { ⌜ WellFormed (now s) c × (ask .start < c .n) × (ask .goal < c .n) × Amount (ask .slip) × Amount (ask .access) ⌝ }
+    requires { ⌜ WellFormed (now s) c × (ask .start < c .n) × (ask .goal < c .n) × Amount (ask .constraints .«slip_road_cost_penalty») × Amount (ask .constraints .«access_road_cost_penalty») ⌝ }
     requires { ⌜ (0 < slots) × (c .n ≤ length (now route)) × Sized (c .n) slots (columns (c .n) slots (now labels) (now «came_from») (now entries) (now links) 0 0) ⌝ }
     ensures found { λ r. ⌜ answer (road-at (sheet-of (now (s .entry)) c)) (r .search) (now (route .exit)) ≡ bounded-astar slots (asked (sheet-of (now (s .entry)) c) ask) (ask .start) ⌝ }
     ensures entries { λ r. ⌜ r .entries ≤ slots ⌝ }

@@ -6,27 +6,21 @@ use road_network::road_class;
 use sheet::distances::GoalRow;
 ghost use mathlib.Core.Path.{_≡_};
 ghost use Prim.Native.Nat.{_<_};
-ghost use Rattle.model.specs.View.{allows};
-ghost use Rattle.search.specs.Ask.{penalty-by, query-at, Ready};
+ghost use Rattle.model.specs.View.{permits, penalty};
+ghost use Rattle.search.specs.Ask.{query-at, Ready};
 
-// Whether the search may take road r: by its class, or as a slip road.
+// Whether the search may take road r.
 pub fn permits(ask: Ask, r: Road) -> bool
-    ensures { λ b. ⌜ b ≡ allows (ask .class) r ⌝ }
+    ensures { λ b. ⌜ b ≡ permits (ask .constraints) r ⌝ }
 {
-    road_class::allows(ask.class, r)
+    road_class::permits(ask.constraints, r)
 }
 
-// What a road costs beside its length: slip wins over access.
+// What a road costs beside its length.
 pub fn penalty(ask: Ask, r: Road) -> f64
-    ensures { λ p. ⌜ p ≡ penalty-by (ask .slip) (ask .access) r ⌝ }
+    ensures { λ p. ⌜ p ≡ penalty (ask .constraints) r ⌝ }
 {
-    if r.fow == 6 {
-        ask.slip
-    } else if r.access {
-        ask.access
-    } else {
-        0.0
-    }
+    road_class::penalty(ask.constraints, r)
 }
 
 // The distance from node v to the goal, from the goal's row; 0 where there is none.

@@ -63,7 +63,7 @@ returns-2 c = let a = c .before .before .before .before .before .before .before 
     let t = sheet-of (a .s .now) (a .c) in
     let ten = ten-pairs t (a .c) (a .starts) (a .ends) (c .before .before .before .before .before .before .before .before .before .before .before .before .before .before .before .before .before .before .before .before .before .before .before .before .before .before .before .before .before .pre .0 .3) (c .before .before .before .before .before .before .before .before .before .before .before .before .before .before .before .before .before .before .before .before .before .before .before .before .before .before .before .before .before .pre .0 .4) in
     let same = c .before .before .before .before .before .before .before .before .before .before .before .before .before .before .before .before .before .before .before .before .before .try-same-edge-solution in
-    let best-route = c .before .before .before .before .before .before .before .before .before .before .before .before .before .try-pairs .last .1 .1 .1 .1 .1 .1 .1 .1 .1 .1 .0 in (
+    let best-route = c .before .before .before .before .before .before .before .before .before .before .before .before .before .try-pairs .last .1 .1 .1 .1 .1 .1 .1 .1 .1 .0 in (
       c .ended .ensures .0 (road-at t) best-route ∙ by-pairs (a .b) (seek-at t (a .slots) (a .b)) (held t (a .starts)) (held t (a .ends)) (same .result) (λ roads area. same .ensures roads area ∙ ap (try-same-edge-solution (a .b)) ten) (road-at t) (c .before .before .before .before .before .before .before .before .before .before .before .before .before .before .before .before .before .before .before .before .if1 .left) (c .before .before .before .before .before .before .before .before .before .before .before .before .before .try-pairs .ensures .0 ∙ ap (λ (ps : List Pair). try-pairs (a .b) (seek-at t (a .slots) (a .b)) (sort by-sum ps) none) ten),
       c .ended .ensures .1 (a .c .n) (a .c .e) best-route (c .before .before .before .before .before .before .before .before .before .before .before .before .before .try-pairs .ensures .1),
     )

@@ -34,7 +34,7 @@ keep-roads-requires : tie.Need-keep-roads-requires
 keep-roads-requires c κs = let p = c .before .before .before .before .before .before .before .before .before .before .before .before .before .before .before .before .before .before .before .before .before .before .before .before .before .before .before .before .before .before .pre in
     let m = c .before .before .before .before .before .before .before .before .before .before .before .before .before .middle in
     let r = spans-roads _ _ (m .result) _ (omega (arith, c .before .before .before .before .before .before .before .before .before .before .before .before .before .before .before .before .before .before .before .before .before .before .road .ensures .2)) (m .ensures .1) in
-    (omega (arith, c .before .before .settle .ensures .few, r .0, p .1 .2), omega (arith, c .before .before .settle .ensures .few, r .0, p .1 .1, m .kept .1 .1 .1 .1 .1 .1 .1 .1 .1 .1 .0))
+    (omega (arith, c .before .before .settle .ensures .few, r .0, p .1 .2), omega (arith, c .before .before .settle .ensures .few, r .0, p .1 .1, m .kept .1 .1 .1 .1 .1 .1 .1 .1 .1 .0))
 
 same-length : tie.Need-same-length
 same-length c = search needs
@@ -59,11 +59,11 @@ returns c = let a = c .before .before .before .before .before .before .before .b
     let p = c .before .before .before .before .before .before .before .before .before .before .before .before .before .before .before .before .before .before .before .before .before .before .before .before .before .before .before .before .before .before .before .before .before .pre in
     let m = c .before .before .before .before .before .before .before .before .before .before .before .before .before .before .before .before .middle in
     let t = c .before .before .before .before .before .settle in
-    let new = m .last .1 .1 .1 .1 .1 .1 .1 .1 .1 .1 .0 in
+    let new = m .last .1 .1 .1 .1 .1 .1 .1 .1 .1 .0 in
     let old = a .best-route .now in
     let sh = sheet-of (a .s .now) (a .c) in
     let r = spans-roads _ _ (m .result) _ (omega (arith, c .before .before .before .before .before .before .before .before .before .before .before .before .before .before .before .before .before .before .before .before .before .before .before .before .before .road .ensures .2)) (m .ensures .1) in
-    let fit : count-of (m .result) ≤ length new = omega (arith, r .0, p .1 .1, m .kept .1 .1 .1 .1 .1 .1 .1 .1 .1 .1 .0) in
+    let fit : count-of (m .result) ≤ length new = omega (arith, r .0, p .1 .1, m .kept .1 .1 .1 .1 .1 .1 .1 .1 .1 .0) in
     rw (c .before .before .keep-roads .ensures) (
       rw (c .before .before .before .before .before .before .before .before .before .before .before .before .before .before .before .before .before .before .before .before .before .before .before .before .before .road .ensures .0, c .before .before .before .before .before .before .before .before .before .before .before .before .before .before .before .before .before .before .before .before .before .before .before .before .road2 .ensures .0) at (one-pair (a .b) (pair-as (a .start) (c .before .before .before .before .before .before .before .before .before .before .before .before .before .before .before .before .before .before .before .before .before .before .before .before .before .road .result) (a .end) (c .before .before .before .before .before .before .before .before .before .before .before .before .before .before .before .before .before .before .before .before .before .before .before .before .road2 .result)) (a .best) (c .before .before .before .before .before .before .before .before .before .before .before .before .before .before .before .before .before .before .before .before .before .before .before .plan .result) (c .before .before .before .before .before .before .before .before .before .before .before .before .before .before .before .before .before .before .before .before .before .before .ask .result) (m .result) (t .result) (c .before .before .before .before .before .before .before .before .before .before .before .before .before .before .before .before .before .before .before .before .before .before .before .plan .ensures) (c .before .before .before .before .before .before .before .before .before .before .before .before .before .before .before .before .before .before .before .before .before .before .ask .ensures) (t .ensures) (road-at sh) (seek-at sh (a .slots) (a .b)) old new fit (m .ensures .0)),
       fits-on (a .c .n) (a .c .e) (a .best) (t .result) (count-of (m .result)) new old (t .ensures .few) fit r (p .0 .4) (t .ensures .middle),

@@ -28,25 +28,25 @@ use Rattle.legs.proofs.tries.try_pairs.Statement.{statement}
 use Rattle.legs.proofs.tries.try_pairs.Tie as tie
 
 abbrev Inv-fill : tie.InvT-fill
-Inv-fill s c set b slots labels came-from route best-route entries links starts ends count by-start₀ by-end₀ k₀ by-start by-end k =
+Inv-fill s c b slots labels came-from route best-route entries links starts ends count by-start₀ by-end₀ k₀ by-start by-end k =
     (k ≤ 10) × Filled starts by-start k × Filled ends by-end k
 
 abbrev μ-fill : tie.MeasureT-fill
-μ-fill s c set b slots labels came-from route best-route entries links starts ends count by-start₀ by-end₀ k₀ by-start by-end k =
+μ-fill s c b slots labels came-from route best-route entries links starts ends count by-start₀ by-end₀ k₀ by-start by-end k =
     10 - k
 
 abbrev Inv-loop : tie.InvT-loop
-Inv-loop s c set b slots labels₀ came-from₀ route₀ best-route₀ entries₀ links₀ starts ends count by-start by-end k heads₀ st₀ t₀ labels came-from route best-route entries links heads st t =
+Inv-loop s c b slots labels₀ came-from₀ route₀ best-route₀ entries₀ links₀ starts ends count by-start by-end k heads₀ st₀ t₀ labels came-from route best-route entries links heads st t =
     Kept (columns (c .n) slots labels₀ came-from₀ entries₀ links₀ 0 0) (columns (c .n) slots labels came-from entries links 0 0) route₀ route best-route₀ best-route
     × Good (road-at (sheet-of s c)) b (seek-at (sheet-of s c) slots b) (in-order (sheet-of s c) starts ends) (c .n) (c .e) (starts .count * ends .count) st best-route t
     × Heads (sheet-of s c) starts ends (starts .count * ends .count) t heads
 
 abbrev μ-loop : tie.MeasureT-loop
-μ-loop s c set b slots labels₀ came-from₀ route₀ best-route₀ entries₀ links₀ starts ends count by-start by-end k heads₀ st₀ t₀ labels came-from route best-route entries links heads st t =
+μ-loop s c b slots labels₀ came-from₀ route₀ best-route₀ entries₀ links₀ starts ends count by-start by-end k heads₀ st₀ t₀ labels came-from route best-route entries links heads st t =
     starts .count * ends .count - t
 
 mul-count : tie.Need-mul-count Inv-fill μ-fill Inv-loop μ-loop
-mul-count c = let p = c .before .before .before .before .before .before .before .pre .0 in let a = c .before .before .before .before .before .before .before .args in let t = sheet-of (a .s .now) (a .c) in let h = few t (a .c) (a .t5) (a .t6) (p .2) (p .3) in omega arith
+mul-count c = let p = c .before .before .before .before .before .before .before .pre .0 in let a = c .before .before .before .before .before .before .before .args in let t = sheet-of (a .s .now) (a .c) in let h = few t (a .c) (a .t4) (a .t5) (p .2) (p .3) in omega arith
 
 fill-holds : tie.Need-fill-holds Inv-fill μ-fill Inv-loop μ-loop
 fill-holds c = (omega arith, filled-none _ _ refl, filled-none _ _ refl)
@@ -82,14 +82,14 @@ fill-less : tie.Need-fill-less Inv-fill μ-fill Inv-loop μ-loop
 fill-less c = omega (arith, c .before .before .fill-test .taken)
 
 fill-again : tie.Need-fill-again Inv-fill μ-fill Inv-loop μ-loop
-fill-again c = let a = c .before .before .before .before .before .before .before .before .before .before .before .args in let f = c .before .before .before .fill in (omega (arith, c .before .before .fill-test .taken), filled-more (a .t5) (f .by-start) (f .k) (c .before .before .fill-test .taken) (f .inv .1), filled-more (a .t6) (f .by-end) (f .k) (c .before .before .fill-test .taken) (f .inv .2))
+fill-again c = let a = c .before .before .before .before .before .before .before .before .before .before .before .args in let f = c .before .before .before .fill in (omega (arith, c .before .before .fill-test .taken), filled-more (a .t4) (f .by-start) (f .k) (c .before .before .fill-test .taken) (f .inv .1), filled-more (a .t5) (f .by-end) (f .k) (c .before .before .fill-test .taken) (f .inv .2))
 
 no-best-requires : tie.Need-no-best-requires Inv-fill μ-fill Inv-loop μ-loop
 no-best-requires c κs = search needs
 
 loop-holds : tie.Need-loop-holds Inv-fill μ-fill Inv-loop μ-loop
 loop-holds c = let p = c .before .before .before .before .before .before .before .before .before .before .pre .0 in let a = c .before .before .before .before .before .before .before .before .before .before .args in let t = sheet-of (a .s .now) (a .c) in
-    (kept-start _ _ _, good-start _ _ _ _ _ _ _ (c .no-best .result) _ (c .no-best .ensures), heads-start t (a .c) (a .t5) (a .t6) (p .2) (p .3))
+    (kept-start _ _ _, good-start _ _ _ _ _ _ _ (c .no-best .result) _ (c .no-best .ensures), heads-start t (a .c) (a .t4) (a .t5) (p .2) (p .3))
 
 slice-aggregate-next-pair : tie.Need-slice-aggregate-next-pair Inv-fill μ-fill Inv-loop μ-loop
 slice-aggregate-next-pair c = search needs
@@ -102,7 +102,7 @@ slice-aggregate-next-pair-3 c = search needs
 
 next-pair-requires : tie.Need-next-pair-requires Inv-fill μ-fill Inv-loop μ-loop
 next-pair-requires c κs = let p = c .before .before .before .before .before .before .before .before .before .before .before .before .before .before .before .pre .0 in let a = c .before .before .before .before .before .before .before .before .before .before .before .before .before .before .before .args in let t = sheet-of (a .s .now) (a .c) in
-    (omega (arith, p .2 .few, c .before .before .before .before .before .before .before .fill .inv .1 .long), omega (arith, p .3 .few, c .before .before .before .before .before .before .before .fill .inv .2 .long), omega (arith, p .2 .few, c .before .before .before .before .loop .inv .2 .long), some-open t (a .c) (a .t5) (a .t6) (p .2) (p .3) (c .before .before .before .before .loop .t) (c .before .before .before .loop-test .taken) (c .before .before .before .before .loop .heads) (c .before .before .before .before .loop .inv .2))
+    (omega (arith, p .2 .few, c .before .before .before .before .before .before .before .fill .inv .1 .long), omega (arith, p .3 .few, c .before .before .before .before .before .before .before .fill .inv .2 .long), omega (arith, p .2 .few, c .before .before .before .before .loop .inv .2 .long), some-open t (a .c) (a .t4) (a .t5) (p .2) (p .3) (c .before .before .before .before .loop .t) (c .before .before .before .loop-test .taken) (c .before .before .before .before .loop .heads) (c .before .before .before .before .loop .inv .2))
 
 mul-first : tie.Need-mul-first Inv-fill μ-fill Inv-loop μ-loop
 mul-first c = omega (arith, c .before .before .before .before .before .before .before .before .before .before .before .before .before .before .before .before .before .before .pre .0 .2 .few, c .before .before .next-pair .ensures .0)
@@ -140,45 +140,45 @@ same-length-6 c = both-size (c .before .before .before .before .before .before .
 returns : tie.Need-returns Inv-fill μ-fill Inv-loop μ-loop
 returns c = let p = c .before .before .before .before .before .before .before .before .before .before .before .before .before .before .before .before .before .before .before .before .before .before .before .before .pre .0 in let a = c .before .before .before .before .before .before .before .before .before .before .before .before .before .before .before .before .before .before .before .before .before .before .before .before .args in let t = sheet-of (a .s .now) (a .c) in
     let i = c .before .before .before .before .before .before .before .before .next-pair .result .start in let j = c .before .before .before .before .before .before .before .before .next-pair .result .end in
-    let x = at-road t (item-at (a .t5) i) in let y = at-road t (item-at (a .t6) j) in
+    let x = at-road t (item-at (a .t4) i) in let y = at-road t (item-at (a .t5) j) in
     let d = pair no-candidate no-candidate in
     let all : c .before .before .before .before .before .before .before .before .before .before .before .before .before .before .before .before .fill .k ≡ 10 = omega (arith, c .before .before .before .before .before .before .before .before .before .before .before .before .before .before .before .before .fill .inv .0, c .before .before .before .before .before .before .before .before .before .before .before .before .before .before .before .fill-test .left) in
-    let is0 = c .before .before .before .before .before .before .before .before .next-pair .ensures .2 (held t (a .t5)) (held t (a .t6)) (scored t (a .c) (a .t5) (a .t6) (p .2) (p .3) _ _ (rw all at (c .before .before .before .before .before .before .before .before .before .before .before .before .before .before .before .before .fill .inv .1)) (rw all at (c .before .before .before .before .before .before .before .before .before .before .before .before .before .before .before .before .fill .inv .2))) in
+    let is0 = c .before .before .before .before .before .before .before .before .next-pair .ensures .2 (held t (a .t4)) (held t (a .t5)) (scored t (a .c) (a .t4) (a .t5) (p .2) (p .3) _ _ (rw all at (c .before .before .before .before .before .before .before .before .before .before .before .before .before .before .before .before .fill .inv .1)) (rw all at (c .before .before .before .before .before .before .before .before .before .before .before .before .before .before .before .before .fill .inv .2))) in
     let heads = c .before .before .before .before .before .before .before .before .next-pair .last .1 .1 .1 .1 .0 in
-    let is : sort by-sum (left (held t (a .t5)) (held t (a .t6)) (take (a .t5 .count) (c .before .before .before .before .before .before .before .before .before .before .before .before .before .loop .heads))) ≡ pair x y ∷ sort by-sum (left (held t (a .t5)) (held t (a .t6)) (take (a .t5 .count) heads)) =
-    is0 ∙ ap (λ (z : Candidate). pair z (getD (held t (a .t6)) j no-candidate) ∷ sort by-sum (left (held t (a .t5)) (held t (a .t6)) (take (a .t5 .count) heads))) (held-at t (a .t5) (p .2 .room) i (c .before .before .before .before .before .before .before .before .next-pair .ensures .0)) ∙ ap (λ (z : Candidate). pair x z ∷ sort by-sum (left (held t (a .t5)) (held t (a .t6)) (take (a .t5 .count) heads))) (held-at t (a .t6) (p .3 .room) j (c .before .before .before .before .before .before .before .before .next-pair .ensures .1)) in
+    let is : sort by-sum (left (held t (a .t4)) (held t (a .t5)) (take (a .t4 .count) (c .before .before .before .before .before .before .before .before .before .before .before .before .before .loop .heads))) ≡ pair x y ∷ sort by-sum (left (held t (a .t4)) (held t (a .t5)) (take (a .t4 .count) heads)) =
+    is0 ∙ ap (λ (z : Candidate). pair z (getD (held t (a .t5)) j no-candidate) ∷ sort by-sum (left (held t (a .t4)) (held t (a .t5)) (take (a .t4 .count) heads))) (held-at t (a .t4) (p .2 .room) i (c .before .before .before .before .before .before .before .before .next-pair .ensures .0)) ∙ ap (λ (z : Candidate). pair x z ∷ sort by-sum (left (held t (a .t4)) (held t (a .t5)) (take (a .t4 .count) heads))) (held-at t (a .t5) (p .3 .room) j (c .before .before .before .before .before .before .before .before .next-pair .ensures .1)) in
     let ten-heads = c .before .before .before .before .before .before .before .before .next-pair .kept .1 .1 .1 .1 .0 ∙ c .before .before .before .before .before .before .before .before .before .before .before .before .before .loop .inv .2 .long in
-    let there = pair-there t (a .c) (a .t5) (a .t6) (p .2) (p .3) (c .before .before .before .before .before .before .before .before .before .before .before .before .before .loop .t) (c .before .before .before .before .before .before .before .before .before .before .before .before .loop-test .taken) (c .before .before .before .before .before .before .before .before .before .before .before .before .before .loop .heads) (c .before .before .before .before .before .before .before .before .before .before .before .before .before .loop .inv .2) x y heads ten-heads is d in
+    let there = pair-there t (a .c) (a .t4) (a .t5) (p .2) (p .3) (c .before .before .before .before .before .before .before .before .before .before .before .before .before .loop .t) (c .before .before .before .before .before .before .before .before .before .before .before .before .loop-test .taken) (c .before .before .before .before .before .before .before .before .before .before .before .before .before .loop .heads) (c .before .before .before .before .before .before .before .before .before .before .before .before .before .loop .inv .2) x y heads ten-heads is d in
     let reached : best-score (best-of (road-at t) (c .before .before .before .before .before .before .before .before .before .before .before .before .before .loop .st .best) (c .before .before .before .before .before .before .before .before .before .before .before .before .before .loop .best-route)) ≤ᶠ pair x y .sum ≡ true = rw (c .before .before .before .best-score .ensures (road-at t) (c .before .before .before .before .before .before .before .before .before .before .before .before .before .loop .best-route)) at (c .if1 .taken) in
-    (good-enough _ _ _ _ _ _ _ (order-long t (a .c) (a .t5) (a .t6) (p .2) (p .3)) _ _ _ (c .before .before .before .before .before .before .before .before .before .before .before .before .before .loop .inv .1) (c .before .before .before .before .before .before .before .before .before .before .before .before .loop-test .taken) (pair x y) d there reached, c .before .before .before .before .before .before .before .before .before .before .before .before .before .loop .inv .1 .fits)
+    (good-enough _ _ _ _ _ _ _ (order-long t (a .c) (a .t4) (a .t5) (p .2) (p .3)) _ _ _ (c .before .before .before .before .before .before .before .before .before .before .before .before .before .loop .inv .1) (c .before .before .before .before .before .before .before .before .before .before .before .before .loop-test .taken) (pair x y) d there reached, c .before .before .before .before .before .before .before .before .before .before .before .before .before .loop .inv .1 .fits)
 
 try-pair-requires : tie.Need-try-pair-requires Inv-fill μ-fill Inv-loop μ-loop
 try-pair-requires c κs = let p = c .before .before .before .before .before .before .before .before .before .before .before .before .before .before .before .before .before .before .before .before .before .before .before .before .before .before .before .before .before .before .pre in let kept = c .before .before .before .before .before .before .before .before .before .before .before .before .before .before .before .before .before .before .before .loop .inv .0 in
     ((p .0 .0, p .0 .1, p .0 .2 .named (c .before .before .before .before .before .before .before .before .before .before .before .before .before .before .next-pair .result .start) (c .before .before .before .before .before .before .before .before .before .before .before .before .before .before .next-pair .ensures .0), p .0 .3 .named (c .before .before .before .before .before .before .before .before .before .before .before .before .before .before .next-pair .result .end) (c .before .before .before .before .before .before .before .before .before .before .before .before .before .before .next-pair .ensures .1), c .before .before .before .before .before .before .before .before .before .before .before .before .before .before .before .before .before .before .before .loop .inv .1 .fits), (p .1 .0, omega (arith, kept .route, p .1 .1), omega (arith, kept .best-route, p .1 .2), sized-on (p .1 .3) (kept .sizes)))
 
 next-place-requires : tie.Need-next-place-requires Inv-fill μ-fill Inv-loop μ-loop
-next-place-requires c κs = let p = c .before .before .before .before .before .before .before .before .before .before .before .before .before .before .before .before .before .before .before .before .before .before .before .before .before .before .before .before .before .before .before .before .before .before .before .before .before .before .before .before .before .before .before .pre .0 in let a = c .before .before .before .before .before .before .before .before .before .before .before .before .before .before .before .before .before .before .before .before .before .before .before .before .before .before .before .before .before .before .before .before .before .before .before .before .before .before .before .before .before .before .before .args in let t = sheet-of (a .s .now) (a .c) in (c .before .before .before .before .before .before .before .before .before .before .before .before .before .before .before .before .before .before .before .before .before .before .before .before .before .before .before .before .before .before .before .loop-test .taken, few t (a .c) (a .t5) (a .t6) (p .2) (p .3))
+next-place-requires c κs = let p = c .before .before .before .before .before .before .before .before .before .before .before .before .before .before .before .before .before .before .before .before .before .before .before .before .before .before .before .before .before .before .before .before .before .before .before .before .before .before .before .before .before .before .before .pre .0 in let a = c .before .before .before .before .before .before .before .before .before .before .before .before .before .before .before .before .before .before .before .before .before .before .before .before .before .before .before .before .before .before .before .before .before .before .before .before .before .before .before .before .before .before .before .args in let t = sheet-of (a .s .now) (a .c) in (c .before .before .before .before .before .before .before .before .before .before .before .before .before .before .before .before .before .before .before .before .before .before .before .before .before .before .before .before .before .before .before .loop-test .taken, few t (a .c) (a .t4) (a .t5) (p .2) (p .3))
 
 loop-less : tie.Need-loop-less Inv-fill μ-fill Inv-loop μ-loop
 loop-less c = let p = c .before .before .before .before .before .before .before .before .before .before .before .before .before .before .before .before .before .before .before .before .before .before .before .before .before .before .before .before .before .before .before .before .before .before .before .before .before .before .before .before .before .before .before .before .pre .0 in let a = c .before .before .before .before .before .before .before .before .before .before .before .before .before .before .before .before .before .before .before .before .before .before .before .before .before .before .before .before .before .before .before .before .before .before .before .before .before .before .before .before .before .before .before .before .args in let t = sheet-of (a .s .now) (a .c) in
-    rw (c .next-place .ensures) (nearer _ _ _ (in-order t (a .t5) (a .t6)) _ _ _ (order-long t (a .c) (a .t5) (a .t6) (p .2) (p .3)) _ _ _ (c .before .before .before .before .before .before .before .before .before .before .before .before .before .before .before .before .before .before .before .before .before .before .before .before .before .before .before .before .before .before .before .before .before .loop .inv .1) (c .before .before .before .before .before .before .before .before .before .before .before .before .before .before .before .before .before .before .before .before .before .before .before .before .before .before .before .before .before .before .before .before .loop-test .taken) _)
+    rw (c .next-place .ensures) (nearer _ _ _ (in-order t (a .t4) (a .t5)) _ _ _ (order-long t (a .c) (a .t4) (a .t5) (p .2) (p .3)) _ _ _ (c .before .before .before .before .before .before .before .before .before .before .before .before .before .before .before .before .before .before .before .before .before .before .before .before .before .before .before .before .before .before .before .before .before .loop .inv .1) (c .before .before .before .before .before .before .before .before .before .before .before .before .before .before .before .before .before .before .before .before .before .before .before .before .before .before .before .before .before .before .before .before .loop-test .taken) _)
 
 loop-again : tie.Need-loop-again Inv-fill μ-fill Inv-loop μ-loop
 loop-again c = let p = c .before .before .before .before .before .before .before .before .before .before .before .before .before .before .before .before .before .before .before .before .before .before .before .before .before .before .before .before .before .before .before .before .before .before .before .before .before .before .before .before .before .before .before .before .pre .0 in let a = c .before .before .before .before .before .before .before .before .before .before .before .before .before .before .before .before .before .before .before .before .before .before .before .before .before .before .before .before .before .before .before .before .before .before .before .before .before .before .before .before .before .before .before .before .args in let t = sheet-of (a .s .now) (a .c) in let loop = c .before .before .before .before .before .before .before .before .before .before .before .before .before .before .before .before .before .before .before .before .before .before .before .before .before .before .before .before .before .before .before .before .before .loop in
-    let k = c .before .before .before .before .before .before .before .before .before .before .before .before .before .try-pair .kept .1 .1 .1 .1 .1 .1 .1 .1 in
-    let l = c .before .before .before .before .before .before .before .before .before .before .before .before .before .try-pair .last .1 .1 .1 .1 .1 .1 .1 .1 in
+    let k = c .before .before .before .before .before .before .before .before .before .before .before .before .before .try-pair .kept .1 .1 .1 .1 .1 .1 .1 in
+    let l = c .before .before .before .before .before .before .before .before .before .before .before .before .before .try-pair .last .1 .1 .1 .1 .1 .1 .1 in
     let next = l .1 .1 .1 .0 in
-    let long = order-long t (a .c) (a .t5) (a .t6) (p .2) (p .3) in
+    let long = order-long t (a .c) (a .t4) (a .t5) (p .2) (p .3) in
     let i = c .before .before .before .before .before .before .before .before .before .before .before .before .before .before .before .before .before .before .before .before .before .before .before .before .before .before .before .before .next-pair .result .start in let j = c .before .before .before .before .before .before .before .before .before .before .before .before .before .before .before .before .before .before .before .before .before .before .before .before .before .before .before .before .next-pair .result .end in
-    let x = at-road t (item-at (a .t5) i) in let y = at-road t (item-at (a .t6) j) in
+    let x = at-road t (item-at (a .t4) i) in let y = at-road t (item-at (a .t5) j) in
     let d = pair no-candidate no-candidate in
     let all : c .before .before .before .before .before .before .before .before .before .before .before .before .before .before .before .before .before .before .before .before .before .before .before .before .before .before .before .before .before .before .before .before .before .before .before .before .fill .k ≡ 10 = omega (arith, c .before .before .before .before .before .before .before .before .before .before .before .before .before .before .before .before .before .before .before .before .before .before .before .before .before .before .before .before .before .before .before .before .before .before .before .before .fill .inv .0, c .before .before .before .before .before .before .before .before .before .before .before .before .before .before .before .before .before .before .before .before .before .before .before .before .before .before .before .before .before .before .before .before .before .before .before .fill-test .left) in
-    let is0 = c .before .before .before .before .before .before .before .before .before .before .before .before .before .before .before .before .before .before .before .before .before .before .before .before .before .before .before .before .next-pair .ensures .2 (held t (a .t5)) (held t (a .t6)) (scored t (a .c) (a .t5) (a .t6) (p .2) (p .3) _ _ (rw all at (c .before .before .before .before .before .before .before .before .before .before .before .before .before .before .before .before .before .before .before .before .before .before .before .before .before .before .before .before .before .before .before .before .before .before .before .before .fill .inv .1)) (rw all at (c .before .before .before .before .before .before .before .before .before .before .before .before .before .before .before .before .before .before .before .before .before .before .before .before .before .before .before .before .before .before .before .before .before .before .before .before .fill .inv .2))) in
+    let is0 = c .before .before .before .before .before .before .before .before .before .before .before .before .before .before .before .before .before .before .before .before .before .before .before .before .before .before .before .before .next-pair .ensures .2 (held t (a .t4)) (held t (a .t5)) (scored t (a .c) (a .t4) (a .t5) (p .2) (p .3) _ _ (rw all at (c .before .before .before .before .before .before .before .before .before .before .before .before .before .before .before .before .before .before .before .before .before .before .before .before .before .before .before .before .before .before .before .before .before .before .before .before .fill .inv .1)) (rw all at (c .before .before .before .before .before .before .before .before .before .before .before .before .before .before .before .before .before .before .before .before .before .before .before .before .before .before .before .before .before .before .before .before .before .before .before .before .fill .inv .2))) in
     let heads = c .before .before .before .before .before .before .before .before .before .before .before .before .before .before .before .before .before .before .before .before .before .before .before .before .before .before .before .before .next-pair .last .1 .1 .1 .1 .0 in
-    let is : sort by-sum (left (held t (a .t5)) (held t (a .t6)) (take (a .t5 .count) (c .before .before .before .before .before .before .before .before .before .before .before .before .before .before .before .before .before .before .before .before .before .before .before .before .before .before .before .before .before .before .before .before .before .loop .heads))) ≡ pair x y ∷ sort by-sum (left (held t (a .t5)) (held t (a .t6)) (take (a .t5 .count) heads)) =
-    is0 ∙ ap (λ (z : Candidate). pair z (getD (held t (a .t6)) j no-candidate) ∷ sort by-sum (left (held t (a .t5)) (held t (a .t6)) (take (a .t5 .count) heads))) (held-at t (a .t5) (p .2 .room) i (c .before .before .before .before .before .before .before .before .before .before .before .before .before .before .before .before .before .before .before .before .before .before .before .before .before .before .before .before .next-pair .ensures .0)) ∙ ap (λ (z : Candidate). pair x z ∷ sort by-sum (left (held t (a .t5)) (held t (a .t6)) (take (a .t5 .count) heads))) (held-at t (a .t6) (p .3 .room) j (c .before .before .before .before .before .before .before .before .before .before .before .before .before .before .before .before .before .before .before .before .before .before .before .before .before .before .before .before .next-pair .ensures .1)) in
+    let is : sort by-sum (left (held t (a .t4)) (held t (a .t5)) (take (a .t4 .count) (c .before .before .before .before .before .before .before .before .before .before .before .before .before .before .before .before .before .before .before .before .before .before .before .before .before .before .before .before .before .before .before .before .before .loop .heads))) ≡ pair x y ∷ sort by-sum (left (held t (a .t4)) (held t (a .t5)) (take (a .t4 .count) heads)) =
+    is0 ∙ ap (λ (z : Candidate). pair z (getD (held t (a .t5)) j no-candidate) ∷ sort by-sum (left (held t (a .t4)) (held t (a .t5)) (take (a .t4 .count) heads))) (held-at t (a .t4) (p .2 .room) i (c .before .before .before .before .before .before .before .before .before .before .before .before .before .before .before .before .before .before .before .before .before .before .before .before .before .before .before .before .next-pair .ensures .0)) ∙ ap (λ (z : Candidate). pair x z ∷ sort by-sum (left (held t (a .t4)) (held t (a .t5)) (take (a .t4 .count) heads))) (held-at t (a .t5) (p .3 .room) j (c .before .before .before .before .before .before .before .before .before .before .before .before .before .before .before .before .before .before .before .before .before .before .before .before .before .before .before .before .next-pair .ensures .1)) in
     let ten-heads = c .before .before .before .before .before .before .before .before .before .before .before .before .before .before .before .before .before .before .before .before .before .before .before .before .before .before .before .before .next-pair .kept .1 .1 .1 .1 .0 ∙ c .before .before .before .before .before .before .before .before .before .before .before .before .before .before .before .before .before .before .before .before .before .before .before .before .before .before .before .before .before .before .before .before .before .loop .inv .2 .long in
-    let there = pair-there t (a .c) (a .t5) (a .t6) (p .2) (p .3) (c .before .before .before .before .before .before .before .before .before .before .before .before .before .before .before .before .before .before .before .before .before .before .before .before .before .before .before .before .before .before .before .before .before .loop .t) (c .before .before .before .before .before .before .before .before .before .before .before .before .before .before .before .before .before .before .before .before .before .before .before .before .before .before .before .before .before .before .before .before .loop-test .taken) (c .before .before .before .before .before .before .before .before .before .before .before .before .before .before .before .before .before .before .before .before .before .before .before .before .before .before .before .before .before .before .before .before .before .loop .heads) (c .before .before .before .before .before .before .before .before .before .before .before .before .before .before .before .before .before .before .before .before .before .before .before .before .before .before .before .before .before .before .before .before .before .loop .inv .2) x y heads ten-heads is d in
+    let there = pair-there t (a .c) (a .t4) (a .t5) (p .2) (p .3) (c .before .before .before .before .before .before .before .before .before .before .before .before .before .before .before .before .before .before .before .before .before .before .before .before .before .before .before .before .before .before .before .before .before .loop .t) (c .before .before .before .before .before .before .before .before .before .before .before .before .before .before .before .before .before .before .before .before .before .before .before .before .before .before .before .before .before .before .before .before .loop-test .taken) (c .before .before .before .before .before .before .before .before .before .before .before .before .before .before .before .before .before .before .before .before .before .before .before .before .before .before .before .before .before .before .before .before .before .loop .heads) (c .before .before .before .before .before .before .before .before .before .before .before .before .before .before .before .before .before .before .before .before .before .before .before .before .before .before .before .before .before .before .before .before .before .loop .inv .2) x y heads ten-heads is d in
     let missed : best-score (best-of (road-at t) (loop .st .best) (loop .best-route)) ≤ᶠ pair x y .sum ≡ false = rw (c .before .before .before .before .before .before .before .before .before .before .before .before .before .before .before .before .before .before .before .before .before .before .before .best-score .ensures (road-at t) (loop .best-route)) at (c .before .before .before .before .before .before .before .before .before .before .before .before .before .before .before .before .before .before .before .before .if1 .left) in (
       record {
         sizes = sizes-on (loop .inv .0 .sizes) (areas-same (a .c .n) (a .slots) (loop .labels) (loop .came-from) (loop .entries) (loop .links) (l .0) (l .1 .0) (l .1 .1 .1 .1 .0) (l .1 .1 .1 .1 .1 .0) 0 0 0 0 (k .0) (k .1 .0) (k .1 .1 .1 .1 .0) (k .1 .1 .1 .1 .1 .0));
@@ -186,7 +186,7 @@ loop-again c = let p = c .before .before .before .before .before .before .before
         best-route = k .1 .1 .1 .0 ∙ loop .inv .0 .best-route;
       },
       rw (c .next-place .ensures) (good-turn _ _ _ _ _ _ _ long _ _ _ (loop .inv .1) (c .before .before .before .before .before .before .before .before .before .before .before .before .before .before .before .before .before .before .before .before .before .before .before .before .before .before .before .before .before .before .before .before .loop-test .taken) (pair x y) d there missed (c .before .before .before .before .before .before .before .before .before .before .before .before .before .try-pair .result) next (c .before .before .before .before .before .before .before .before .before .before .before .before .before .try-pair .ensures .0) (c .before .before .before .before .before .before .before .before .before .before .before .before .before .try-pair .ensures .1)),
-      rw (c .next-place .ensures) (heads-next t (a .c) (a .t5) (a .t6) (p .2) (p .3) (loop .t) (c .before .before .before .before .before .before .before .before .before .before .before .before .before .before .before .before .before .before .before .before .before .before .before .before .before .before .before .before .before .before .before .before .loop-test .taken) (loop .heads) (loop .inv .2) x y heads ten-heads is (c .before .before .before .before .before .before .before .before .before .before .before .before .before .try-pair .result .phase)),
+      rw (c .next-place .ensures) (heads-next t (a .c) (a .t4) (a .t5) (p .2) (p .3) (loop .t) (c .before .before .before .before .before .before .before .before .before .before .before .before .before .before .before .before .before .before .before .before .before .before .before .before .before .before .before .before .before .before .before .before .loop-test .taken) (loop .heads) (loop .inv .2) x y heads ten-heads is (c .before .before .before .before .before .before .before .before .before .before .before .before .before .try-pair .result .phase)),
     )
 
 same-length-7 : tie.Need-same-length-7 Inv-fill μ-fill Inv-loop μ-loop
@@ -209,7 +209,7 @@ same-length-12 c = both-size (c .before .before .before .before .before .before 
 
 returns-2 : tie.Need-returns-2 Inv-fill μ-fill Inv-loop μ-loop
 returns-2 c = let p = c .before .before .before .before .before .before .before .before .before .before .before .before .pre .0 in let a = c .before .before .before .before .before .before .before .before .before .before .before .before .args in let t = sheet-of (a .s .now) (a .c) in
-    let long = order-long t (a .c) (a .t5) (a .t6) (p .2) (p .3) in
+    let long = order-long t (a .c) (a .t4) (a .t5) (p .2) (p .3) in
     (good-end _ _ _ _ _ _ _ long _ _ _ (c .before .loop .inv .1) (c .loop-test .left), c .before .loop .inv .1 .fits)
 
 pub try-pairs-spec : {M : Type 1} → statement M

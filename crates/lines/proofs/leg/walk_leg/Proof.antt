@@ -1,5 +1,5 @@
 use Rattle.model.specs.Sheet.{sheet-of}
-use Rattle.lines.proofs.Leaving.{sought-is, leaves-as}
+use Rattle.lines.proofs.Leaving.{priced, sought-is, leaves-as}
 use Rattle.lines.proofs.Owned.{leg-known}
 use Prim.Native.Nat.{_<_}
 use native.Mathlib.Omega.{arith}
@@ -12,14 +12,14 @@ leg-limits-requires : tie.Need-leg-limits-requires
 leg-limits-requires c κs = search needs
 
 find-best-path-requires : tie.Need-find-best-path-requires
-find-best-path-requires c κs = let p = c .before .before .before .before .before .before .before .before .before .before .before .before .before .before .before .before .before .pre in ((p .0 .0, p .0 .1, p .0 .2, p .0 .5 .ready, p .0 .6 .ready), p .1 .1)
+find-best-path-requires c κs = let p = c .before .before .before .before .before .before .before .before .before .before .before .before .before .before .before .before .before .pre in let a = c .before .before .before .before .before .before .before .before .before .before .before .before .before .before .before .before .before .args in ((p .0 .0, priced (a .s .now) (a .c) (p .0 .0) (a .i) (c .before .before .before .before .before .before .leg-limits .ensures), p .0 .2, p .0 .5 .ready, p .0 .6 .ready), p .1 .1)
 
 leave-requires : tie.Need-leave-requires
 leave-requires c κs = let a = c .before .before .before .before .before .before .before .before .before .before .before .before .before .before .before .before .before .before .before .before .before .before .before .before .before .before .before .before .before .before .before .before .before .before .args in
     let p = c .before .before .before .before .before .before .before .before .before .before .before .before .before .before .before .before .before .before .before .before .before .before .before .before .before .before .before .before .before .before .before .before .before .before .pre in
     let f = c .before .before .before .before .before .before .before .before .before .before .before .before .before .before .before .before .find-best-path in
     let is = f .ensures .0 ∙ sought-is (sheet-of (a .s .now) (a .c)) (a .slots) (a .i) (c .before .before .before .before .before .before .before .before .before .before .before .before .before .before .before .before .before .before .before .before .before .before .before .leg-limits .ensures) (c .before .before .before .before .before .before .before .before .before .before .before .before .before .before .before .before .before .before .before .before .before .before .before .before .before .before .before .before .before .before .before .before .before .before .pre .0 .5 .are) (c .before .before .before .before .before .before .before .before .before .before .before .before .before .before .before .before .before .before .before .before .before .before .before .before .before .before .before .before .before .before .before .before .before .before .pre .0 .6 .are) in
-    ((p .0 .0, leg-known (a .s .now) (a .c) (p .0 .0) (a .slots) (a .i) (p .0 .3) (f .result) (f .last .1 .1 .1 .1 .1 .1 .1 .1 .1 .1 .0) is (f .ensures .1) (omega (arith, p .1 .1 .2, f .kept .1 .1 .1 .1 .1 .1 .1 .1 .1 .1 .0)), p .0 .4), p .1 .0)
+    ((p .0 .0, leg-known (a .s .now) (a .c) (p .0 .0) (a .slots) (a .i) (p .0 .3) (f .result) (f .last .1 .1 .1 .1 .1 .1 .1 .1 .1 .0) is (f .ensures .1) (omega (arith, p .1 .1 .2, f .kept .1 .1 .1 .1 .1 .1 .1 .1 .1 .0)), p .0 .4), p .1 .0)
 
 same-length : tie.Need-same-length
 same-length c = search needs

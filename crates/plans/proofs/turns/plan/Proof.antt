@@ -8,19 +8,19 @@ use Rattle.plans.proofs.Asking.{asked-start, asked-end, asked-alone, as
 use Rattle.plans.proofs.turns.plan.Statement.{statement}
 use Rattle.plans.proofs.turns.plan.Tie as tie
 
-allows-requires : tie.Need-allows-requires
-allows-requires c κs = search needs
+permits-requires : tie.Need-permits-requires
+permits-requires c κs = search needs
 
 returns : tie.Need-returns
 unfolding asked-of
-returns c = λ roads. asked-start _ _ (sym (c .before .allows .ensures) ∙ not-true _ (c .if1 .taken))
+returns c = λ roads. asked-start _ _ (sym (c .before .permits .ensures) ∙ not-true _ (c .if1 .taken))
 
-allows-requires-2 : tie.Need-allows-requires-2
-allows-requires-2 c κs = search needs
+permits-requires-2 : tie.Need-permits-requires-2
+permits-requires-2 c κs = search needs
 
 returns-2 : tie.Need-returns-2
 unfolding asked-of
-returns-2 c = λ roads. asked-end _ _ (sym (c .before .before .before .allows .ensures) ∙ not-false _ (c .before .before .if1 .left)) (sym (c .before .allows2 .ensures) ∙ not-true _ (c .if2 .taken))
+returns-2 c = λ roads. asked-end _ _ (sym (c .before .before .before .permits .ensures) ∙ not-false _ (c .before .before .if1 .left)) (sym (c .before .permits2 .ensures) ∙ not-true _ (c .if2 .taken))
 
 on-one-road-requires : tie.Need-on-one-road-requires
 on-one-road-requires c κs = search needs
@@ -28,26 +28,26 @@ on-one-road-requires c κs = search needs
 returns-3 : tie.Need-returns-3
 unfolding asked-of
 returns-3 c = λ roads. ap alone (c .on-one-road .ensures roads [])
-    ∙ asked-alone _ _ (sym (c .before .before .before .before .before .before .before .allows .ensures) ∙ not-false _ (c .before .before .before .before .before .before .if1 .left)) (sym (c .before .before .before .before .before .allows2 .ensures) ∙ not-false _ (c .before .before .before .before .if2 .left)) (c .before .if3 .taken)
+    ∙ asked-alone _ _ (sym (c .before .before .before .before .before .before .before .permits .ensures) ∙ not-false _ (c .before .before .before .before .before .before .if1 .left)) (sym (c .before .before .before .before .before .permits2 .ensures) ∙ not-false _ (c .before .before .before .before .if2 .left)) (c .before .if3 .taken)
 
 middle-max-requires : tie.Need-middle-max-requires
 middle-max-requires c κs = search needs
 
 returns-4 : tie.Need-returns-4
 unfolding asked-of
-returns-4 c = λ roads. asked-short _ _ (sym (c .before .before .before .before .before .before .before .before .allows .ensures) ∙ not-false _ (c .before .before .before .before .before .before .before .if1 .left)) (sym (c .before .before .before .before .before .before .allows2 .ensures) ∙ not-false _ (c .before .before .before .before .before .if2 .left)) (c .before .before .if3 .left) _ (c .before .middle-max .ensures) (c .if4 .taken)
+returns-4 c = λ roads. asked-short _ _ (sym (c .before .before .before .before .before .before .before .before .permits .ensures) ∙ not-false _ (c .before .before .before .before .before .before .before .if1 .left)) (sym (c .before .before .before .before .before .before .permits2 .ensures) ∙ not-false _ (c .before .before .before .before .before .if2 .left)) (c .before .before .if3 .left) _ (c .before .middle-max .ensures) (c .if4 .taken)
 
 returns-5 : tie.Need-returns-5
 unfolding asked-of
-returns-5 c = λ roads. asked-across _ _ (sym (c .before .before .before .before .before .before .before .before .allows .ensures) ∙ not-false _ (c .before .before .before .before .before .before .before .if1 .left)) (sym (c .before .before .before .before .before .before .allows2 .ensures) ∙ not-false _ (c .before .before .before .before .before .if2 .left)) (c .before .before .if3 .left) _ (c .before .middle-max .ensures) (c .if4 .left)
+returns-5 c = λ roads. asked-across _ _ (sym (c .before .before .before .before .before .before .before .before .permits .ensures) ∙ not-false _ (c .before .before .before .before .before .before .before .if1 .left)) (sym (c .before .before .before .before .before .before .permits2 .ensures) ∙ not-false _ (c .before .before .before .before .before .if2 .left)) (c .before .before .if3 .left) _ (c .before .middle-max .ensures) (c .if4 .left)
 
 pub plan-spec : {M : Type 1} → statement M
 plan-spec =
     tie.close
     (tie.spec
-    allows-requires
+    permits-requires
     returns
-    allows-requires-2
+    permits-requires-2
     returns-2
     on-one-road-requires
     returns-3

@@ -11,14 +11,14 @@ returns c = close-start _ _ (not-true _ (c .if1 .taken))
 returns-2 : tie.Need-returns-2
 returns-2 c = close-end _ _ (not-false _ (c .before .before .if1 .left)) (not-true _ (c .if2 .taken))
 
-allows-requires : tie.Need-allows-requires
-allows-requires c κs = search needs
+permits-requires : tie.Need-permits-requires
+permits-requires c κs = search needs
 
 returns-3 : tie.Need-returns-3
-returns-3 c = c .allows .ensures ∙ close-both _ _ (not-false _ (c .before .before .before .before .before .before .if1 .left)) (not-false _ (c .before .before .before .before .if2 .left)) (c .before .if3 .taken)
+returns-3 c = c .permits .ensures ∙ close-both _ _ (not-false _ (c .before .before .before .before .before .before .if1 .left)) (not-false _ (c .before .before .before .before .if2 .left)) (c .before .if3 .taken)
 
 returns-4 : tie.Need-returns-4
 returns-4 c = close-apart _ _ (not-false _ (c .before .before .before .before .before .if1 .left)) (not-false _ (c .before .before .before .if2 .left)) (c .if3 .left)
 
 pub close-spec : {M : Type 1} → statement M
-close-spec = tie.close (tie.spec returns returns-2 allows-requires returns-3 returns-4)
+close-spec = tie.close (tie.spec returns returns-2 permits-requires returns-3 returns-4)

@@ -17,7 +17,7 @@ use Rattle.search.proofs.relax.relax_all.Tie as tie
 
 abbrev Inv-loop : tie.InvT-loop
 Inv-loop s c ask row slots labels₀ came-from₀ entries₀ links₀ first-len first-made u g len₀ made₀ i₀ end labels came-from entries links len made i =
-    (end ≤ c .e) × Rest (c .n) (c .e) slots (asked (sheet-of s c) ask) (entry-from u g) (road-at (sheet-of s c)) (ask .class) (entry-of s c) end
+    (end ≤ c .e) × Rest (c .n) (c .e) slots (asked (sheet-of s c) ask) (entry-from u g) (road-at (sheet-of s c)) (ask .constraints) (entry-of s c) end
     (relax-all slots (asked (sheet-of s c) ask) (entry-from u g) (asked (sheet-of s c) ask .leaving u) (state-of (road-at (sheet-of s c)) (c .n) (columns (c .n) slots labels₀ came-from₀ entries₀ links₀ first-len first-made)))
     (columns (c .n) slots labels₀ came-from₀ entries₀ links₀ first-len first-made)
     (columns (c .n) slots labels came-from entries links len made) i

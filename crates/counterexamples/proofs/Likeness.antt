@@ -13,9 +13,9 @@ use Rattle.model.specs.Candidates.{same-bytes}
 use Rattle.model.specs.Sheet.{part, sheet-of, parsed}
 use Rattle.model.proofs.Computes.{computes}
 use Rattle.model.proofs.Members.{all-at, length-tab, getD-table, tab-in}
 use Rattle.closed.specs.Closed.{exceeds, beyond-every-limit, named, Closing, is-closed, EqualParts, Agree, open-at, AlikeBy, core, no-zero-length}
-use Rattle.closed.specs.Sharp.{AnyOrder, AnyBytes, AnyNumbers}
-use Rattle.closed.specs.SharpParts.{parts-of, others, AlikeBut}
+use Rattle.counterexamples.specs.Sharp.{AnyOrder, AnyBytes, AnyNumbers}
+use Rattle.counterexamples.specs.SharpParts.{parts-of, others, AlikeBut}
 
 -- ---- the roads
 

@@ -4,9 +4,9 @@ use mathlib.Core.List.{[], _∷_}
 use Rattle.model.specs.declared.Judged.the-variants.{Fine}
 use Rattle.model.specs.Numbers.{nat}
 use Rattle.model.specs.Judge.{judged}
 use Rattle.closed.specs.Closed.{is-closed, AlikeBy, Alike, refusal, match}
-use Rattle.closed.specs.Sharp.{slip-too, named-too, beyond-one-limit, beyond-limits-given, beyond-bare-limits, AnyOrder, AnyBytes, AnyNumbers, SnappingOff, NoZeroLength, core-of, path-count, Answered, no-bridge, bridge, two-bridges, two-legs-gap, two-legs-bridge, class-limit-7, no-class-limit, named-road, twins, alone, longer, looped, over, Sharp, SharpWhole}
-use Rattle.closed.proofs.Likeness.{alike-by, any-order, any-bytes, any-numbers, computes-likeness}
+use Rattle.counterexamples.specs.Sharp.{slip-too, named-too, beyond-one-limit, beyond-limits-given, beyond-bare-limits, AnyOrder, AnyBytes, AnyNumbers, SnappingOff, NoZeroLength, core-of, path-count, Answered, no-bridge, bridge, two-bridges, two-legs-gap, two-legs-bridge, class-limit-7, no-class-limit, named-road, twins, alone, longer, looped, over, Sharp, SharpWhole}
+use Rattle.counterexamples.proofs.Likeness.{alike-by, any-order, any-bytes, any-numbers, computes-likeness}
 
 closed : Answered core-of Alike no-bridge (bridge 6 3) (refusal 10 0 1) (refusal 10 0 1)
 unfolding computes-likeness

@@ -9,8 +9,8 @@ use Rattle.model.specs.Layout.{counts-of, settings-bytes, points-bytes, rows-by
 use Rattle.model.specs.Call.{Lent, decode}
 use Rattle.model.specs.Build.{u64-bytes, f64s, settings-with, point, road, row, goal, sheet-bytes}
 use Rattle.model.specs.Marked.{lists}
 use Rattle.closed.specs.Closed.{is-closed, Agree, open-at, Core, refusal, match, core}
-use Rattle.closed.specs.Sharp.{core-of, Answered, settings, class-limit-3, last-point, middle-of-road}
+use Rattle.counterexamples.specs.Sharp.{core-of, Answered, settings, class-limit-3, last-point, middle-of-road}
 
 -- kind, N, and the bytes of settings, points, rows and distances
 abbrev pub parts-of : List ℕ → List (List ℕ)

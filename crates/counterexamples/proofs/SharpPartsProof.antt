@@ -2,10 +2,10 @@
 use mathlib.Core.Path.{refl}
 use Rattle.model.specs.Numbers.{nat}
 use Rattle.model.specs.Call.{decode}
 use Rattle.closed.specs.Closed.{refusal, match, core}
-use Rattle.closed.specs.Sharp.{core-of, Answered}
-use Rattle.closed.specs.SharpParts.{AlikeBut, s1-with, usual, s1, no-candidates, two-nodes, three-nodes, for-two-nodes, two-ways, on-700, SharpParts}
-use Rattle.closed.proofs.Likeness.{alike-but, computes-likeness}
+use Rattle.counterexamples.specs.Sharp.{core-of, Answered}
+use Rattle.counterexamples.specs.SharpParts.{AlikeBut, s1-with, usual, s1, no-candidates, two-nodes, three-nodes, for-two-nodes, two-ways, on-700, SharpParts}
+use Rattle.counterexamples.proofs.Likeness.{alike-but, computes-likeness}
 
 kind : Answered core-of (AlikeBut 0) s1 (s1-with 4 usual 3 75) (on-700 50) (refusal 7 4 0)
 unfolding computes-likeness

@@ -1,0 +1,3 @@
+pub mod Likeness
+pub mod SharpProof
+pub mod SharpPartsProof

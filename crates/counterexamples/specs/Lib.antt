@@ -1,0 +1,2 @@
+pub mod Sharp
+pub mod SharpParts
