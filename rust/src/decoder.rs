@@ -1,6 +1,7 @@
 //! The call, with areas that grow to what a sheet needs.
 
-use crate::ffi::{self, Areas};
+use crate::areas::Areas;
+use crate::ffi;
 use crate::layout::Counts;
 use crate::refusal::{Refusal, HEAP_USED_UP};
 use crate::{Match, Metrics, VERSION};
