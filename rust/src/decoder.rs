@@ -1,6 +1,7 @@
 //! The call, with areas that grow to what a sheet needs.
 
-use crate::ffi::{self, Areas};
+use crate::areas::Areas;
+use crate::ffi;
 use crate::layout::Counts;
 use crate::refusal::{Refusal, HEAP_USED_UP};
 use crate::{Match, Metrics, VERSION};
@@ -16,13 +17,13 @@ pub fn judge(sheet: &[u8]) -> Result<(), Refusal> {
 #[derive(Debug, Clone, Copy, PartialEq, Eq)]
 #[non_exhaustive]
 pub struct Sizes {
-    /// Of each of the three node areas.
+    /// Of the node areas, three numbers each.
     pub node: usize,
-    /// Of each of the two route areas.
+    /// Of the route areas, two numbers each.
     pub route: usize,
-    /// Of each of the heap's four parts; more let larger searches end.
+    /// Of the heap, four numbers each; more let larger searches end.
     pub heap_least: usize,
-    /// Of each part of the coverage area and of each answer list, four in all.
+    /// Of the coverage area and the answer lists, two numbers each.
     pub list: usize,
 }
 

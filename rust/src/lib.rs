@@ -29,6 +29,7 @@
 compile_error!("libhemokatu.a is for x86-64 Linux");
 
 mod answer;
+mod areas;
 mod build_error;
 mod builder;
 mod decoder;

@@ -1,72 +1,17 @@
 //! The port: calls of libhemokatu.a on areas of any size.
 
+/// The crate's calls, which are made safe there.
+#[allow(dead_code)]
+#[path = "../../../rust/src/ffi.rs"]
+mod ffi;
+
+use ffi::{Answered, Lent};
 use oracle::{Answer, Match, Outcome};
 use sheets::Areas;
 
-#[repr(C)]
-struct Answered {
-    number: usize,
-    a: usize,
-    b: usize,
-    count: usize,
-    length_m: f64,
-    start_offset: f64,
-    start_fraction: f64,
-    end_offset: f64,
-    end_fraction: f64,
-    primary: u64,
-    coverage: f64,
-}
-
-#[repr(C)]
-struct Judgement {
-    number: usize,
-    place: usize,
-}
-
-#[repr(C)]
-struct Sizes {
-    node: usize,
-    route: usize,
-    heap_least: usize,
-    list: usize,
-}
-
-extern "C" {
-    fn hemokatu_sizes(points: usize, nodes: usize) -> Sizes;
-
-    fn hemokatu_judge(sheet: *const u8, sheet_len: usize) -> Judgement;
-
-    #[allow(clippy::too_many_arguments)]
-    fn hemokatu_decode(
-        sheet: *const u8,
-        sheet_len: usize,
-        labels: *mut f64,
-        labels_len: usize,
-        came_from: *mut usize,
-        came_from_len: usize,
-        route: *mut usize,
-        route_len: usize,
-        best_route: *mut usize,
-        best_route_len: usize,
-        entries: *mut f64,
-        entries_len: usize,
-        links: *mut usize,
-        links_len: usize,
-        covered: *mut usize,
-        covered_len: usize,
-        coverage: *mut f64,
-        coverage_len: usize,
-        ids: *mut u64,
-        ids_len: usize,
-        lengths: *mut f64,
-        lengths_len: usize,
-    ) -> Answered;
-}
-
 /// The least areas for a sheet of so many points and nodes; None above the limits of either.
 pub fn least_areas(points: usize, nodes: usize) -> Option<Areas> {
-    let s = unsafe { hemokatu_sizes(points, nodes) };
+    let s = ffi::sizes(points, nodes);
     let none = [s.node, s.route, s.heap_least, s.list] == [0; 4];
     (!none).then(|| Areas::of(s.node, s.route, s.heap_least, s.list, s.list))
 }
@@ -87,11 +32,12 @@ pub struct Port {
     lengths: Vec<f64>,
 }
 
-fn grow<T: Clone>(area: &mut Vec<T>, size: usize, filler: T) -> *mut T {
+/// The first entries of an area, grown to them if it is shorter.
+fn front<T: Clone>(area: &mut Vec<T>, size: usize, filler: T) -> &mut [T] {
     if area.len() < size {
         area.resize(size, filler);
     }
-    area.as_mut_ptr()
+    &mut area[..size]
 }
 
 /// The numbers of a slice of two halves with so many entries each: twice the lesser, and an odd number where they differ.
@@ -106,7 +52,7 @@ impl Port {
 
     /// Refusals 1 to 5 of any bytes, by number and A.
     pub fn judge(&self, sheet: &[u8]) -> Option<(usize, usize)> {
-        let j = unsafe { hemokatu_judge(sheet.as_ptr(), sheet.len()) };
+        let j = ffi::judge(sheet);
         (j.number != 0).then_some((j.number, j.place))
     }
 
@@ -133,36 +79,19 @@ impl Port {
     fn decode(&mut self, sheet: &[u8], size: &[usize; 13]) -> Answered {
         let [labels, entries, coverage] = &mut self.floats;
         let [came_from, route, best_route, links, covered] = &mut self.numbers;
-        let label_count = halves(size[0], size[1]);
-        let entry_count = halves(size[5], size[6]);
-        let link_count = halves(size[7], size[8]);
-        // Each area has at least the entries that are lent, and no call overlaps two.
-        unsafe {
-            hemokatu_decode(
-                sheet.as_ptr(),
-                sheet.len(),
-                grow(labels, label_count, f64::NAN),
-                label_count,
-                grow(came_from, size[2], 1),
-                size[2],
-                grow(route, size[3], usize::MAX),
-                size[3],
-                grow(best_route, size[4], 3),
-                size[4],
-                grow(entries, entry_count, f64::NEG_INFINITY),
-                entry_count,
-                grow(links, link_count, usize::MAX),
-                link_count,
-                grow(covered, size[9], 0),
-                size[9],
-                grow(coverage, size[10], 1e300),
-                size[10],
-                grow(&mut self.ids, size[11], ID),
-                size[11],
-                grow(&mut self.lengths, size[12], LENGTH),
-                size[12],
-            )
-        }
+        let lent = Lent {
+            labels: front(labels, halves(size[0], size[1]), f64::NAN),
+            came_from: front(came_from, size[2], 1),
+            route: front(route, size[3], usize::MAX),
+            best_route: front(best_route, size[4], 3),
+            entries: front(entries, halves(size[5], size[6]), f64::NEG_INFINITY),
+            links: front(links, halves(size[7], size[8]), usize::MAX),
+            covered: front(covered, size[9], 0),
+            coverage: front(coverage, size[10], 1e300),
+            ids: front(&mut self.ids, size[11], ID),
+            lengths: front(&mut self.lengths, size[12], LENGTH),
+        };
+        ffi::decode(sheet, lent)
     }
 
     fn outcome(&self, a: &Answered, size: &[usize; 13]) -> Result<Outcome, String> {

@@ -55,9 +55,9 @@ pub fn read(bytes: &[u8]) -> Result<Reference, String> {
         if number > 0 {
             at = rest.moved(at);
         }
-        let (top, limit, mut point) = rest.point(at);
+        let (top, lfrcnp, mut point) = rest.point(at);
         let dnp_m = (rest.byte() as f64 + 0.5) * INTERVAL_M;
-        point.way = Some(Way { limit, dnp_m });
+        point.way = Some(Way { lfrcnp, dnp_m });
         if number == 0 {
             reference.orientation = top;
         }
@@ -187,7 +187,7 @@ pub fn write(reference: &Reference) -> Result<Vec<u8>, String> {
             let interval = (way.dnp_m / INTERVAL_M) as usize;
             let interval = u8::try_from(interval)
                 .map_err(|_| format!("from point {number} it is too far to the next"))?;
-            bytes.extend([way.limit << 5 | sector(point.bearing), interval]);
+            bytes.extend([way.lfrcnp << 5 | sector(point.bearing), interval]);
         }
     }
     let offsets = [

@@ -277,7 +277,7 @@ fn point(routes: &Routes, leg: &[usize], next: Option<usize>) -> LocationPoint {
         fow: street.fow,
         bearing: measure::bearing_along(&road.line, 0.0, CHORD_M, Side::Forward),
         way: Some(Way {
-            limit: leg.iter().map(|road| class(*road)).fold(of_next, u8::max),
+            lfrcnp: leg.iter().map(|road| class(*road)).fold(of_next, u8::max),
             dnp_m: length,
         }),
     }

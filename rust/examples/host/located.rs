@@ -35,8 +35,8 @@ impl Located {
             line.extend(&network.roads[*road].line);
         }
         line.dedup();
-        let total_m: f64 = found.lengths.iter().sum();
-        let (first_m, last_m) = (found.start_offset, total_m - found.end_offset);
+        let total_m: f64 = found.lengths_m.iter().sum();
+        let (first_m, last_m) = (found.start_offset_m, total_m - found.end_offset_m);
         let leg = |from: usize| leg_length(network, reference, &roads, [first_m, last_m], from);
         let first_leg = leg(0);
         let last_leg = leg(reference.points.len() - 2);

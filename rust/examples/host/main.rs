@@ -12,6 +12,7 @@ mod legend;
 mod located;
 mod measure;
 mod network;
+mod part;
 mod picture;
 mod reference;
 mod route;
@@ -61,8 +62,8 @@ fn run(text: &mut String) -> Result<bool, String> {
     };
     let mut host = Measurer::new(&network);
     host.cut = !arguments.whole;
-    host.closed = arguments.closed.clone();
-    for id in &host.closed {
+    host.close(arguments.closed.clone());
+    for id in host.closed() {
         if !network.streets.iter().any(|street| street.id == *id) {
             return Err(format!("no road {id} to close"));
         }

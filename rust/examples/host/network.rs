@@ -39,6 +39,10 @@ impl Road {
     pub fn is_back(&self) -> bool {
         self.id & 1 == 1
     }
+
+    pub fn ends(&self) -> [usize; 2] {
+        [self.from, self.to]
+    }
 }
 
 #[derive(Default)]

@@ -73,7 +73,7 @@ impl Picture<'_> {
             HEAD + view.height,
             metres_per_pixel,
             self.reference.kind,
-            !self.host.closed.is_empty(),
+            !self.host.closed().is_empty(),
         );
         svg + "</svg>\n"
     }

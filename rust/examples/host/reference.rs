@@ -32,8 +32,8 @@ pub struct LocationPoint {
 /// What a point says of the way to the next one.
 #[derive(Debug, Clone, Copy, PartialEq)]
 pub struct Way {
-    /// LFRCNP.
-    pub limit: u8,
+    /// The lowest class on the way.
+    pub lfrcnp: u8,
     pub dnp_m: f64,
 }
 

@@ -58,8 +58,8 @@ impl<'a> Routes<'a> {
     fn cost(&self, road: usize) -> f64 {
         let street = self.host.network.street_of(road);
         let penalty = match street.fow {
-            6 => self.host.settings.slip_road_cost_penalty,
-            _ if street.access => self.host.settings.access_road_cost_penalty,
+            6 => self.host.settings.slip_road_cost_penalty_m,
+            _ if street.access => self.host.settings.access_road_cost_penalty_m,
             _ => 0.0,
         };
         self.length(road) + penalty

@@ -2,9 +2,10 @@
 
 use crate::measure::{self, Place, Side, CHORD_M};
 use crate::network::Network;
+use crate::part::Part;
 use crate::reference::{LocationPoint, Reference};
-use hemokatu::{PathEntry, Point, Road, Row, Settings, SheetBuilder};
-use std::cell::RefCell;
+use hemokatu::{PathEntry, Point, Row, Settings, SheetBuilder};
+use std::cell::{OnceCell, RefCell};
 use std::collections::{BTreeSet, HashMap};
 use std::rc::Rc;
 
@@ -15,10 +16,11 @@ const MOST_ROWS: usize = 64;
 pub struct Measurer<'a> {
     pub network: &'a Network,
     pub settings: Settings,
-    /// The ids of streets that are left out.
-    pub closed: BTreeSet<u64>,
     /// Whether sheets have the part of the network that can matter, or all of it.
     pub cut: bool,
+    closed: BTreeSet<u64>,
+    /// All of it, which is the same for each reference.
+    whole: OnceCell<Part>,
     /// The metres to nodes that were goals from every node: they are the same for each reference.
     goals: RefCell<HashMap<usize, Rc<[f64]>>>,
 }
@@ -28,10 +30,21 @@ impl<'a> Measurer<'a> {
         Measurer {
             network,
             settings: Settings::default(),
-            closed: BTreeSet::new(),
             cut: true,
+            closed: BTreeSet::new(),
+            whole: OnceCell::new(),
             goals: RefCell::default(),
         }
+    }
+
+    /// The ids of streets that are left out.
+    pub fn closed(&self) -> &BTreeSet<u64> {
+        &self.closed
+    }
+
+    pub fn close(&mut self, streets: BTreeSet<u64>) {
+        self.closed = streets;
+        self.whole.take();
     }
 
     pub fn is_open(&self, road: usize) -> bool {
@@ -53,11 +66,10 @@ impl<'a> Measurer<'a> {
                     .map_err(|e| format!("point {number}: {e}"))?,
             );
         }
-        let part = match self.cut {
-            true => self.part(reference, &rows),
-            false => (0..self.network.nodes.len()).collect(),
-        };
-        self.build(reference, rows, &part)
+        match self.cut {
+            true => self.build(reference, &self.around(&self.inner(reference, &rows)), rows),
+            false => self.build(reference, self.whole(), rows),
+        }
     }
 
     /// A row for every open road within the search radius. Its road is the network's number, not yet the sheet's.
@@ -73,10 +85,15 @@ impl<'a> Measurer<'a> {
             if projection.distance_m <= radius {
                 rows.push(Row {
                     road: number,
-                    distance: projection.distance_m,
-                    bearing: measure::bearing_along(&road.line, projection.along_m, CHORD_M, side),
-                    along: projection.along_m,
-                    line: projection.line_m,
+                    distance_m: projection.distance_m,
+                    bearing_deg: measure::bearing_along(
+                        &road.line,
+                        projection.along_m,
+                        CHORD_M,
+                        side,
+                    ),
+                    along_m: projection.along_m,
+                    line_length_m: projection.line_m,
                 });
             }
         }
@@ -93,21 +110,21 @@ impl<'a> Measurer<'a> {
         rows.retain(|row| {
             let street = self.network.street_of(row.road);
             let fits = street.frc.abs_diff(point.frc) <= s.frc_tolerance || street.fow == 6;
-            let turn = measure::bearing_difference(degrees(point) as f64, row.bearing);
-            fits && turn <= s.max_bearing_diff
+            let turn = measure::bearing_difference(degrees(point) as f64, row.bearing_deg);
+            fits && turn <= s.max_bearing_diff_deg
         });
         if rows.len() <= MOST_ROWS {
             return Ok(rows);
         }
-        rows.sort_by(|a, b| a.distance.total_cmp(&b.distance));
-        let kept = rows[s.max_candidates.saturating_sub(1) as usize].distance;
+        rows.sort_by(|a, b| a.distance_m.total_cmp(&b.distance_m));
+        let kept = rows[s.max_candidates.saturating_sub(1) as usize].distance_m;
         let classes = match s.frc_tolerance {
             0 => 0.0,
             tolerance => (7.0 / tolerance as f64).max(1.0),
         };
         let others = s.bearing_weight + s.frc_weight * classes + s.fow_weight;
         let metres = others * s.search_radius_m / s.distance_weight;
-        if rows[MOST_ROWS].distance <= kept + metres {
+        if rows[MOST_ROWS].distance_m <= kept + metres {
             return Err(format!(
                 "{} roads are near it, at most {MOST_ROWS} are possible",
                 rows.len()
@@ -119,7 +136,7 @@ impl<'a> Measurer<'a> {
 
     /// The nodes that a search or a walk at an end can come to: those as near to a leg's first point as its search is long,
     /// the ends of roads with a row, and what lies a walk farther. All their roads come along, so each is as valid as ever.
-    fn part(&self, reference: &Reference, rows: &[Vec<Row>]) -> BTreeSet<usize> {
+    fn inner(&self, reference: &Reference, rows: &[Vec<Row>]) -> BTreeSet<usize> {
         let s = &self.settings;
         let walk = s.max_snap_extension_m;
         let mut circles: Vec<(Place, f64)> = vec![];
@@ -132,7 +149,7 @@ impl<'a> Measurer<'a> {
         let mut ends = BTreeSet::new();
         for row in rows.iter().flatten() {
             let road = &self.network.roads[row.road];
-            ends.extend([road.from, road.to]);
+            ends.extend(road.ends());
         }
         circles.extend(ends.iter().map(|node| (self.network.nodes[*node].at, walk)));
         let is_in = |node: &usize| {
@@ -144,58 +161,35 @@ impl<'a> Measurer<'a> {
         (0..self.network.nodes.len()).filter(is_in).collect()
     }
 
+    fn around(&self, inner: &BTreeSet<usize>) -> Part {
+        Part::around(self.network, inner, |road| self.is_open(road))
+    }
+
+    fn whole(&self) -> &Part {
+        let nodes = 0..self.network.nodes.len();
+        self.whole.get_or_init(|| self.around(&nodes.collect()))
+    }
+
     fn build(
         &self,
         reference: &Reference,
+        part: &Part,
         rows: Vec<Vec<Row>>,
-        part: &BTreeSet<usize>,
     ) -> Result<Vec<u8>, String> {
-        let roads: Vec<usize> = (0..self.network.roads.len())
-            .filter(|road| self.is_open(*road))
-            .filter(|road| {
-                let road = &self.network.roads[*road];
-                part.contains(&road.from) || part.contains(&road.to)
-            })
-            .collect();
-        let mut nodes = part.clone();
-        nodes.extend(roads.iter().flat_map(|road| {
-            let road = &self.network.roads[*road];
-            [road.from, road.to]
-        }));
-        let nodes: Vec<usize> = nodes.into_iter().collect();
-        let number: HashMap<usize, usize> = nodes
-            .iter()
-            .enumerate()
-            .map(|(n, node)| (*node, n))
-            .collect();
-
-        let mut sheet = SheetBuilder::new(reference.kind, nodes.len());
+        let nodes = &part.nodes;
+        let mut sheet = SheetBuilder::over(reference.kind, part.kept.clone());
         sheet.settings(self.settings);
-        let mut on_sheet = HashMap::new();
-        for road in roads {
-            let (r, street) = (&self.network.roads[road], self.network.street_of(road));
-            let added = sheet.road(Road {
-                id: r.id,
-                length_m: r.length_m,
-                source: number[&r.from],
-                target: number[&r.to],
-                frc: street.frc,
-                fow: street.fow,
-                access: street.access,
-            });
-            on_sheet.insert(road, added);
-        }
         for (point, mut rows) in reference.points.iter().zip(rows) {
             for row in &mut rows {
-                row.road = on_sheet[&row.road];
+                row.road = part.roads[&row.road];
             }
             sheet.point(Point {
-                bearing: degrees(point),
+                bearing_deg: degrees(point),
                 frc: point.frc,
                 fow: point.fow,
                 path: point.way.map(|way| PathEntry {
-                    limit: way.limit,
-                    dnp: way.dnp_m,
+                    lfrcnp: way.lfrcnp,
+                    dnp_m: way.dnp_m,
                 }),
                 rows,
             });

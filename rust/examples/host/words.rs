@@ -16,7 +16,7 @@ pub fn of_reference(reference: &Reference) -> String {
         if let Some(way) = point.way {
             text += &format!(
                 "; {:.1} m to the next, class {} at the lowest",
-                way.dnp_m, way.limit
+                way.dnp_m, way.lfrcnp
             );
         }
         text += "\n";
@@ -58,7 +58,7 @@ pub fn of_match(
     }
     text += &format!(
         "its first point lies {:.1} m after the path's start, its last {:.1} m before the end\n",
-        found.start_offset, found.end_offset
+        found.start_offset_m, found.end_offset_m
     );
     text += &match reference.kind {
         Kind::PointAlongLine => format!(
@@ -74,7 +74,7 @@ pub fn of_match(
     if let Some(primary) = network.road_number(found.primary) {
         text += &format!(
             "most of it, {:.1} m, on {}, {}\n",
-            found.coverage,
+            found.coverage_m,
             network.street_of(primary).name,
             name(network, primary)
         );

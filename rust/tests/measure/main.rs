@@ -46,7 +46,8 @@ fn tangent_instead_of_chord() {
     let sheet = |chord_m: f64| {
         let mut first = map.first(at(0.0, 0.0), 67, 420.0);
         for row in &mut first.1.rows {
-            row.bearing = measure::bearing_along(&map.line(row.road), 0.0, chord_m, Side::Forward);
+            row.bearing_deg =
+                measure::bearing_along(&map.line(row.road), 0.0, chord_m, Side::Forward);
         }
         map.sheet(vec![first, map.last(at(270.0, 150.0), 90)])
     };
@@ -112,12 +113,12 @@ fn along_roads(map: &Map, from: usize) -> Vec<f64> {
 /// The nearest road alone is not enough: that the message is 205 m long tells the two apart.
 #[test]
 fn only_the_nearest_road() {
-    let row = |road, distance, along, line| Row {
+    let row = |road, distance_m, along_m, line_length_m| Row {
         road,
-        distance,
-        bearing: 90.0,
-        along,
-        line,
+        distance_m,
+        bearing_deg: 90.0,
+        along_m,
+        line_length_m,
     };
     let sheet = |nearest: bool| {
         let mut sheet = SheetBuilder::new(Kind::Line, 2);
@@ -125,8 +126,8 @@ fn only_the_nearest_road() {
             sheet.road(road(id, length_m, 0, 1));
         }
         let path = PathEntry {
-            limit: 3,
-            dnp: 205.0,
+            lfrcnp: 3,
+            dnp_m: 205.0,
         };
         for (path, part) in [(Some(path), 0.0), (None, 1.0)] {
             let mut rows = vec![row(1, 4.0, 290.0 * part, 290.0)];
@@ -150,20 +151,20 @@ fn only_the_nearest_road() {
 /// With the road's length as the line's, the message ends 20 m before the junction.
 #[test]
 fn the_roads_length_as_the_lines() {
-    let sheet = |line: f64| {
+    let sheet = |line_length_m: f64| {
         let mut sheet = SheetBuilder::new(Kind::Line, 2);
         sheet.road(road(10, 120.0, 0, 1));
         let path = PathEntry {
-            limit: 3,
-            dnp: 120.0,
+            lfrcnp: 3,
+            dnp_m: 120.0,
         };
-        for (path, along) in [(Some(path), 0.0), (None, 100.0)] {
+        for (path, along_m) in [(Some(path), 0.0), (None, 100.0)] {
             let row = Row {
                 road: 0,
-                distance: 0.0,
-                bearing: 90.0,
-                along,
-                line,
+                distance_m: 0.0,
+                bearing_deg: 90.0,
+                along_m,
+                line_length_m,
             };
             sheet.point(point(90, path, vec![row]));
         }

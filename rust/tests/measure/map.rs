@@ -68,32 +68,35 @@ impl Map {
             if projection.distance_m <= 100.0 {
                 rows.push(Row {
                     road,
-                    distance: projection.distance_m,
-                    bearing: measure::bearing_along(&line, projection.along_m, CHORD_M, side),
-                    along: projection.along_m,
-                    line: projection.line_m,
+                    distance_m: projection.distance_m,
+                    bearing_deg: measure::bearing_along(&line, projection.along_m, CHORD_M, side),
+                    along_m: projection.along_m,
+                    line_length_m: projection.line_m,
                 });
             }
         }
         rows
     }
 
-    pub fn first(&self, place: Place, bearing: u16, dnp: f64) -> (Place, Point) {
-        let path = Some(PathEntry { limit: 3, dnp });
-        (place, point(bearing, path, self.rows(place, Side::Forward)))
-    }
-
-    pub fn last(&self, place: Place, bearing: u16) -> (Place, Point) {
+    pub fn first(&self, place: Place, bearing_deg: u16, dnp_m: f64) -> (Place, Point) {
+        let path = Some(PathEntry { lfrcnp: 3, dnp_m });
         (
             place,
-            point(bearing, None, self.rows(place, Side::Backward)),
+            point(bearing_deg, path, self.rows(place, Side::Forward)),
+        )
+    }
+
+    pub fn last(&self, place: Place, bearing_deg: u16) -> (Place, Point) {
+        (
+            place,
+            point(bearing_deg, None, self.rows(place, Side::Backward)),
         )
     }
 }
 
-pub fn point(bearing: u16, path: Option<PathEntry>, rows: Vec<Row>) -> Point {
+pub fn point(bearing_deg: u16, path: Option<PathEntry>, rows: Vec<Row>) -> Point {
     Point {
-        bearing,
+        bearing_deg,
         frc: 3,
         fow: 3,
         path,
@@ -109,7 +112,7 @@ pub fn decoded(sheet: &SheetBuilder) -> (Vec<u64>, f64, f64) {
     (
         found.ids.to_vec(),
         found.length_m.round(),
-        found.end_offset.round(),
+        found.end_offset_m.round(),
     )
 }
 
@@ -122,6 +125,6 @@ pub fn road(id: u64, length_m: f64, source: usize, target: usize) -> Road {
         target,
         frc: 3,
         fow: 3,
-        access: false,
+        ..Road::default()
     }
 }

@@ -63,7 +63,7 @@ fn a_printed_line() {
             p.frc,
             p.fow,
             p.bearing,
-            p.way.map(|way| (way.limit, (10.0 * way.dnp_m).round())),
+            p.way.map(|way| (way.lfrcnp, (10.0 * way.dnp_m).round())),
         )
     };
     assert_eq!(of(first), (3, 2, 140.625, Some((3, 5567.0))));
@@ -145,7 +145,7 @@ fn read_as_written() {
         let mut line = Reference::of(Kind::Line);
         for number in 0..4 {
             let way = Way {
-                limit: between(0.0, 8.0) as u8,
+                lfrcnp: between(0.0, 8.0) as u8,
                 dnp_m: between(0.0, 15_000.0),
             };
             line.points.push(LocationPoint {
@@ -174,7 +174,7 @@ fn read_as_written() {
             assert_eq!((a.frc, a.fow), (b.frc, b.fow));
             match (a.way, b.way) {
                 (Some(a), Some(b)) => {
-                    assert_eq!(a.limit, b.limit);
+                    assert_eq!(a.lfrcnp, b.lfrcnp);
                     near(b.dnp_m, a.dnp_m, 29.3);
                 }
                 (a, b) => assert_eq!(a, b),
@@ -252,7 +252,7 @@ fn not_written() {
     );
     assert_eq!(
         changed(|r| r.points[0].way = Some(Way {
-            limit: 3,
+            lfrcnp: 3,
             dnp_m: 15_002.0
         })),
         "from point 0 it is too far to the next"

@@ -82,16 +82,22 @@ fn closed_roads_are_left_out() {
     let path = routes.path(&routes.tree(from), from, to).unwrap();
     let reference = encode(&routes, &path, ALL).unwrap();
     let middle = path[path.len() / 2];
-    host.closed = BTreeSet::from([town.street_of(middle).id]);
     let mut decoder = Decoder::new();
-    let round = locate(&host, &mut decoder, &reference).expect("there is a way round");
-    assert!(!round.roads.contains(&middle) && round.roads.contains(&path[0]));
-    host.closed = town.streets.iter().map(|street| street.id).collect();
-    let sheet = host.sheet(&reference).unwrap();
-    assert_eq!(
-        decoder.decode(&sheet).unwrap_err(),
-        Refusal::NoCandidate { point: 0 }
-    );
+    for cut in [true, false] {
+        host.cut = cut;
+        host.close(BTreeSet::new());
+        let all = locate(&host, &mut decoder, &reference).expect("the path");
+        assert_eq!(all.roads, path);
+        host.close(BTreeSet::from([town.street_of(middle).id]));
+        let round = locate(&host, &mut decoder, &reference).expect("there is a way round");
+        assert!(!round.roads.contains(&middle) && round.roads.contains(&path[0]));
+        host.close(town.streets.iter().map(|street| street.id).collect());
+        let sheet = host.sheet(&reference).unwrap();
+        assert_eq!(
+            decoder.decode(&sheet).unwrap_err(),
+            Refusal::NoCandidate { point: 0 }
+        );
+    }
 }
 
 /// Written by the White Paper and turned when read, it is the same reference; not turned, it often gives other roads or none.

@@ -48,7 +48,7 @@ fn assert_xml(svg: &str) {
 fn what_it_shows() {
     let town = town();
     let mut host = Measurer::new(&town);
-    host.closed = BTreeSet::from([101, 102]);
+    host.close(BTreeSet::from([101, 102]));
     let routes = Routes::new(&host);
     let path = routes.path(&routes.tree(11), 11, 86).expect("a path");
     let mut decoder = Decoder::new();

@@ -152,12 +152,12 @@ fn a_part_is_enough() {
 fn in_bits(found: &Match) -> (Vec<u64>, Vec<u64>) {
     let numbers = [
         found.length_m,
-        found.start_offset,
+        found.start_offset_m,
         found.start_fraction,
-        found.end_offset,
+        found.end_offset_m,
         found.end_fraction,
-        found.coverage,
+        found.coverage_m,
     ];
-    let numbers = numbers.iter().chain(found.lengths).map(|v| v.to_bits());
+    let numbers = numbers.iter().chain(found.lengths_m).map(|v| v.to_bits());
     (found.ids.to_vec(), numbers.chain([found.primary]).collect())
 }

@@ -42,7 +42,7 @@ fn reference() -> Reference {
         point(
             20.0,
             Some(Way {
-                limit: 3,
+                lfrcnp: 3,
                 dnp_m: 160.0,
             }),
         ),

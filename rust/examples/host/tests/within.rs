@@ -33,7 +33,7 @@ fn reference(from_m: f64, last_bearing: f64) -> Reference {
     };
     let mut line = Reference::of(Kind::Line);
     let way = Way {
-        limit: 3,
+        lfrcnp: 3,
         dnp_m: 100.0 - from_m,
     };
     line.points = vec![
@@ -48,7 +48,7 @@ fn reference(from_m: f64, last_bearing: f64) -> Reference {
 fn the_last_bearing_is_that_of_what_leads_up() {
     let network = bend();
     let mut host = Measurer::new(&network);
-    host.settings.max_bearing_diff = 45.0;
+    host.settings.max_bearing_diff_deg = 45.0;
     let mut decoder = Decoder::new();
     let mut decode = |bearing| {
         let sheet = host.sheet(&reference(20.0, bearing)).expect("a sheet");
