@@ -1,11 +1,12 @@
 -- The loop over the legs: from the next leg on the definition comes to what it comes to from the first, or a refusal stands.
-use Prim.Native.Nat.{ℕ, _+_, _-_, _*_, _≤_, _<_}
+use Prim.Native.Nat.{ℕ, zero, suc, _+_, _-_, _*_, _≤_, _<_}
 use mathlib.Core.Path.{_≡_, refl, sym, ap, _∙_, subst}
 use mathlib.Core.Bool.{Bool, true, false, cond}
 use mathlib.Core.Option.{Option, none}
 use mathlib.Core.List.{List, [], _++_}
-use native.Mathlib.Nat.{mul-le-mul, add-mul}
+use native.Mathlib.Nat.{mul-le-mul, add-mul, zero-mul}
 use native.Mathlib.Omega.{arith}
+use borrow.Author.Tests.{eq-eqb}
 use lib.Dec.{eqb}
 use lib.ListN.{length, take, drop, length-drop}
 use lib.Seq.{length-take-le, take-append-add, take-append-le}
@@ -14,8 +15,9 @@ use Rattle.model.specs.declared.Counts.{Counts}
 use Rattle.model.specs.Numbers.{_⊕_}
 use Rattle.model.specs.Lists.{tab, last}
 use Rattle.model.specs.Sheet.{Sheet, sheet-of}
+use Rattle.model.specs.View.{Leg}
 use Rattle.model.specs.Legs.{Coverage, Route, Sought, best, no-path, heap-full}
-use Rattle.model.specs.Decode.{Course, no-course, roads-of, segment-of, extended, course-of, refused, with-primary, after-leg}
+use Rattle.model.specs.Decode.{Course, no-course, roads-of, segment-of, extended, course-of, Outcome, refused, with-primary, after-leg}
 use Rattle.model.specs.Decode as decode
 use Rattle.model.specs.Call.{most-entries}
 use Rattle.courses.specs.Left.{fresh, coverages-at, cover-all}
@@ -28,7 +30,7 @@ use Rattle.lines.specs.declared.Course as code
 use Rattle.lines.specs.declared.End.{End}
 use Rattle.lines.specs.declared.End.the-variants as D
 use Rattle.lines.specs.declared.Legs.{Legs}
-use Rattle.lines.specs.Legs.{leg-limits, leg-sought, segment-as, road-numbers, Walks, Leaves, Stands, Ends, line, point-along-line, nothing-walked, extended-by, advanced, alone-of, Short}
+use Rattle.lines.specs.Legs.{leg-limits, leg-sought, segment-as, road-numbers, Walks, Leaves, Stands, Ends, point-along-line, legs-of, nothing-walked, extended-by, advanced, Short}
 use Rattle.lines.proofs.Sequence.{leg-from, from-leg, line-start, line-step, line-end, point-is}
 
 -- ---- room
@@ -63,117 +65,6 @@ module _ (s : List ℕ) (c : Counts) (slots : ℕ) where
   abbrev row : ℕ
   row = c .n + 1
 
-  -- the legs so far, by how they end
-  unfoldable pub So-far : ℕ → List ℕ → List ℕ → List Float → End → code.Course → Type 0
-  So-far i ids covered coverage D.Done x = (k : Course) × (from-leg s c slots i k ≡ line (sheet-of s c) slots) × Stands (sheet-of s c) (c .e) (i * (c .n + 1)) k ids covered coverage x
-  So-far i ids covered coverage (D.NoPath j) x = (line (sheet-of s c) slots ≡ refused 10 j (j + 1)) × (j < c .p)
-  So-far i ids covered coverage (D.HeapFull j) x = line (sheet-of s c) slots ≡ refused 11 j 0
-
-  pub record Going (ids covered : List ℕ) (coverage : List Float) (x : Legs) : Type 0 where
-    pub in-range : x .next ≤ c .p
-    pub running : x .next + 1 < c .p → x .end ≡ D.Done
-    pub so-far : So-far (x .next) ids covered coverage (x .end) (x .course)
-
-  pub going-start : (ids covered : List ℕ) (coverage : List Float) → Going ids covered coverage nothing-walked
-  unfolding So-far coverages-at tab
-  going-start ids covered coverage = record {
-    in-range = omega arith;
-    running = λ h. refl;
-    so-far = (
-      no-course,
-      line-start s c slots,
-      record {
-        runs = record { roads = refl; total = refl; first = refl; last = refl };
-        coverages = refl;
-        few-roads = omega arith;
-        few-coverages = omega arith;
-        below = λ j h. absurd (omega arith);
-      },
-    );
-  }
-
-  module _ {ids covered : List ℕ} {coverage : List Float} {x : Legs} (g : Going ids covered coverage x) (h : x .next + 1 < c .p) where
-    -- the course so far
-    pub stands-now : (k : Course) × (from-leg s c slots (x .next) k ≡ line (sheet-of s c) slots) × Stands (sheet-of s c) (c .e) (x .next * (c .n + 1)) k ids covered coverage (x .course)
-    unfolding So-far
-    stands-now = rw (g .running h) at (g .so-far)
-
-    -- the room for one leg more
-    pub room : (i : ℕ) → i ≤ x .next * (c .n + 1) → i + c .n + 1 ≤ most-entries (c .p) (c .n)
-    room i few =
-        let one = rows-more (x .next) row in
-        let all = rows-fit (x .next + 1) (c .p + 4) row (omega arith) in
-        omega arith
-
-    -- where another leg comes, it is the next one
-    pub next-one : (e : LegEnd) → advanced x (c .p) e .next + 1 < c .p → advanced x (c .p) e .next ≡ x .next + 1
-    unfolding advanced
-    next-one (E.Walked w) h = refl
-    next-one E.NoPath h = absurd (omega arith)
-    next-one E.HeapFull h = absurd (omega arith)
-
-    pub nearer : (e : LegEnd) → c .p - advanced x (c .p) e .next < c .p - x .next
-    unfolding advanced
-    nearer (E.Walked w) = omega arith
-    nearer E.NoPath = omega arith
-    nearer E.HeapFull = omega arith
-
-    -- the leg's roads stand behind those already written
-    module _ (ids₁ out covered₁ : List ℕ) (coverage₁ : List Float) (split : (m : ℕ) → m ≤ c .n + 1 → take (x .course .written + m) ids₁ ≡ take (x .course .written) ids ++ take m out) where
-      abbrev k : Course
-      k = stands-now .0
-
-      abbrev stands : Stands (sheet-of s c) (c .e) (x .next * (c .n + 1)) k ids covered coverage (x .course)
-      stands = stands-now .2
-
-      next-is : (so : Sought) → leg-sought t slots (x .next) ≡ so → after-leg (x .next) so (λ r. from-leg s c slots (x .next + 1) (extended (x .next) k (leg-from s c (x .next)) r)) ≡ line t slots
-      next-is so is =
-          ap (λ (z : Sought). after-leg (x .next) z (λ r. from-leg s c slots (x .next + 1) (extended (x .next) k (leg-from s c (x .next)) r))) (sym is)
-          ∙ sym (line-step s c slots (x .next) k h)
-          ∙ stands-now .1
-
-      module _ (r : Route) (w : Walked) (walks : Walks (sheet-of s c) c true (leg-limits (sheet-of s c) (x .next) .dnp) (last (take (x .course .written) ids)) (coverages-at (sheet-of s c) (x .course .covered) covered coverage) (x .course .covered) r out covered₁ coverage₁ w) where
-        segment-is : segment-as (w .segment) ≡ segment-of (leg-from s c (x .next)) r
-        unfolding segment-of
-        segment-is = walks .segment
-
-        first-is : (b : Bool) → segment-as (cond b (w .segment) (x .course .first)) ≡ cond b (segment-of (leg-from s c (x .next)) r) (k .first-segment)
-        first-is true = segment-is
-        first-is false = stands .runs .first
-
-        stands-on : Stands (sheet-of s c) (c .e) ((x .next + 1) * (c .n + 1)) (extended (x .next) k (leg-from s c (x .next)) r) ids₁ covered₁ coverage₁ (extended-by (x .next) (x .course) w)
-        unfolding extended cover-all segment-of
-        stands-on =
-            let one = rows-more (x .next) row in
-            record {
-              runs = record {
-                roads =
-                    split (w .written) (walks .few)
-                    ∙ ap (λ (l : List ℕ). take (x .course .written) ids ++ l) (walks .roads)
-                    ∙ ap (λ (l : List ℕ). l ++ fresh (last l) (road-numbers (roads-of r))) (stands .runs .roads)
-                    ∙ sym (append-numbers (k .roads) (roads-of r));
-                total = ap (λ (y : Float). y ⊕ w .segment .«length_m») (stands .runs .total) ∙ ap (λ (y : decode.Segment). k .total ⊕ y .length-m) segment-is;
-                first = first-is (eqb (x .next) 0);
-                last = segment-is;
-              };
-              coverages = walks .coverages ∙ ap (λ ks. cover-all true ks (r .coverages)) (stands .coverages);
-              few-roads = (let a = stands .few-roads in let b = walks .few in omega arith);
-              few-coverages = (let a = stands .few-coverages in let b = walks .most in omega arith);
-              below = walks .below;
-            }
-
-      pub going-on : (e : LegEnd)
-          → Leaves (sheet-of s c) c true (leg-limits (sheet-of s c) (x .next) .dnp) (last (take (x .course .written) ids)) (coverages-at (sheet-of s c) (x .course .covered) covered coverage) (x .course .covered) (leg-sought (sheet-of s c) slots (x .next)) out covered₁ coverage₁ e
-          → Going ids₁ covered₁ coverage₁ (advanced x (c .p) e)
-      unfolding Leaves So-far advanced after-leg
-      going-on (E.Walked w) left = record {
-        in-range = omega arith;
-        running = λ g. refl;
-        so-far = (extended (x .next) k (leg-from s c (x .next)) (left .0), next-is (best (left .0)) (left .1), stands-on (left .0) w (left .2));
-      }
-      going-on E.NoPath left = record { in-range = omega arith; running = λ g. absurd (omega arith); so-far = (sym (next-is no-path left), omega arith) }
-      going-on E.HeapFull left = record { in-range = omega arith; running = λ g. absurd (omega arith); so-far = sym (next-is heap-full left) }
-
   -- ---- few entries
 
   -- a leg writes few roads, and so do all legs
@@ -190,59 +81,209 @@ module _ (s : List ℕ) (c : Counts) (slots : ℕ) where
       let nodes : c .n + 1 ≤ 1025 = omega arith in
       mul-le-mul points nodes
 
-  -- room for the first leg
-  pub room-first : c .n + 1 ≤ most-entries (c .p) (c .n)
-  room-first =
-      let all = rows-fit 1 (c .p + 4) row (omega arith) in
-      omega arith
+  -- ---- a line, or the one leg of a point along line
 
-  -- ---- the end of the legs
+  -- what is left from leg i on, with the course k before it
+  unfoldable pub from-by : Bool → ℕ → Course → Outcome
+  from-by true i k = from-leg s c slots i k
+  from-by false zero k = point-along-line (sheet-of s c) slots
+  from-by false (suc i) k = with-primary (c .p) k
 
-  more-room : (few most : ℕ) → few ≤ most → {k : Course} {ids covered : List ℕ} {coverage : List Float} {x : code.Course} → Stands (sheet-of s c) (c .e) few k ids covered coverage x → Stands (sheet-of s c) (c .e) most k ids covered coverage x
-  more-room few most h f = record {
-    runs = f .runs;
-    coverages = f .coverages;
-    few-roads = (let a = f .few-roads in omega arith);
-    few-coverages = (let a = f .few-coverages in omega arith);
-    below = f .below;
-  }
+  unfoldable pub course-by : Bool → ℕ → Course → Leg → Route → Course
+  course-by true i k leg r = extended i k leg r
+  course-by false i k leg r = course-of leg r
 
-  pub going-end : {ids covered : List ℕ} {coverage : List Float} {x : Legs} → Going ids covered coverage x → c .p ≤ x .next + 1 → Ends (sheet-of s c) c (line (sheet-of s c) slots) ids covered coverage (x .end) (x .course)
-  unfolding So-far Ends
-  going-end {ids} {covered} {coverage} {x} g h = go (x .end) (g .so-far)
-    where
-      go : (e : End) → So-far (x .next) ids covered coverage e (x .course) → Ends (sheet-of s c) c (line (sheet-of s c) slots) ids covered coverage e (x .course)
-      go D.Done f = (f .0, sym (f .1) ∙ line-end s c slots (x .next) (f .0) h, more-room (x .next * row) (c .p * row) (rows-fit (x .next) (c .p) row (g .in-range)) (f .2))
-      go (D.NoPath j) f = f
-      go (D.HeapFull j) f = f
+  by-start : (b : Bool) → from-by b 0 no-course ≡ legs-of b (sheet-of s c) slots
+  unfolding from-by
+  by-start true = line-start s c slots
+  by-start false = refl
 
-  -- ---- the one leg of a point along line
+  by-step : (b : Bool) → (b ≡ false → c .p ≡ 2) → (i : ℕ) (k : Course) → i + 1 < c .p → from-by b i k ≡ after-leg i (leg-sought (sheet-of s c) slots i) (λ r. from-by b (i + 1) (course-by b i k (leg-from s c i) r))
+  unfolding from-by course-by
+  by-step true two i k h = line-step s c slots i k h
+  by-step false two zero k h = point-is s c slots (two refl)
+  by-step false two (suc i) k h = absurd (omega (arith, two refl))
 
-  module _ (two : c .p ≡ 2) (ids covered : List ℕ) (coverage : List Float) where
-    alone-comes : (so : Sought) → leg-sought t slots 0 ≡ so → point-along-line t slots ≡ after-leg 0 so (λ r. with-primary (c .p) (course-of (leg-from s c 0) r))
-    alone-comes so is = point-is s c slots two ∙ ap (λ (z : Sought). after-leg 0 z (λ r. with-primary (c .p) (course-of (leg-from s c 0) r))) is
+  by-end : (b : Bool) → (b ≡ false → c .p ≡ 2) → (i : ℕ) (k : Course) → c .p ≤ i + 1 → from-by b i k ≡ with-primary (c .p) k
+  unfolding from-by
+  by-end true two i k h = line-end s c slots i k h
+  by-end false two zero k h = absurd (omega (arith, two refl))
+  by-end false two (suc i) k h = refl
 
-    alone-stands : (r : Route) (w : Walked) → Walks (sheet-of s c) c false (leg-limits (sheet-of s c) 0 .dnp) none [] 0 r ids covered coverage w
-        → Stands (sheet-of s c) (c .e) (c .p * (c .n + 1)) (course-of (leg-from s c 0) r) ids covered coverage (record { written = w .written; covered = w .covered; total = w .segment .«length_m»; first = w .segment; last = w .segment })
-    unfolding course-of segment-of cover-all
-    alone-stands r w walks =
-        let all : row ≤ c .p * row = subst (λ (p : ℕ). row ≤ p * row) (sym two) (omega arith) in
+  module _ (summed : Bool) where
+    -- the legs so far, by how they end
+    unfoldable pub So-far : ℕ → List ℕ → List ℕ → List Float → End → code.Course → Type 0
+    So-far i ids covered coverage D.Done x = (k : Course) × (from-by summed i k ≡ legs-of summed (sheet-of s c) slots) × Stands (sheet-of s c) (c .e) (i * (c .n + 1)) k ids covered coverage x
+    So-far i ids covered coverage (D.NoPath j) x = (legs-of summed (sheet-of s c) slots ≡ refused 10 j (j + 1)) × (j < c .p)
+    So-far i ids covered coverage (D.HeapFull j) x = legs-of summed (sheet-of s c) slots ≡ refused 11 j 0
+
+    pub record Going (ids covered : List ℕ) (coverage : List Float) (x : Legs) : Type 0 where
+      pub in-range : x .next ≤ c .p
+      pub two : summed ≡ false → c .p ≡ 2
+      pub running : x .next + 1 < c .p → x .end ≡ D.Done
+      pub so-far : So-far (x .next) ids covered coverage (x .end) (x .course)
+
+    pub going-start : (summed ≡ false → c .p ≡ 2) → (ids covered : List ℕ) (coverage : List Float) → Going ids covered coverage nothing-walked
+    unfolding So-far coverages-at tab
+    going-start two ids covered coverage = record {
+      in-range = omega arith;
+      two = two;
+      running = λ h. refl;
+      so-far = (
+        no-course,
+        by-start summed,
         record {
-          runs = record {
-            roads = walks .roads ∙ sym (skip-none (road-numbers (roads-of r)));
-            total = ap (λ (y : decode.Segment). y .length-m) (walks .segment);
-            first = walks .segment;
-            last = walks .segment;
-          };
-          coverages = walks .coverages;
-          few-roads = (let b = walks .few in omega arith);
-          few-coverages = (let b = walks .most in omega arith);
-          below = walks .below;
-        }
+          runs = record { roads = refl; total = refl; first = refl; last = refl };
+          coverages = refl;
+          few-roads = omega arith;
+          few-coverages = omega arith;
+          below = λ j h. absurd (omega arith);
+        },
+      );
+    }
 
-    pub alone-ends : (e : LegEnd) → Leaves (sheet-of s c) c false (leg-limits (sheet-of s c) 0 .dnp) none [] 0 (leg-sought (sheet-of s c) slots 0) ids covered coverage e
-        → Ends (sheet-of s c) c (point-along-line (sheet-of s c) slots) ids covered coverage (alone-of nothing-walked e .end) (alone-of nothing-walked e .course)
-    unfolding Leaves Ends alone-of after-leg
-    alone-ends (E.Walked w) left = (course-of (leg-from s c 0) (left .0), alone-comes (best (left .0)) (left .1), alone-stands (left .0) w (left .2))
-    alone-ends E.NoPath left = (alone-comes no-path left, omega arith)
-    alone-ends E.HeapFull left = alone-comes heap-full left
+    module _ {ids covered : List ℕ} {coverage : List Float} {x : Legs} (g : Going ids covered coverage x) (h : x .next + 1 < c .p) where
+      -- the course so far
+      pub stands-now : (k : Course) × (from-by summed (x .next) k ≡ legs-of summed (sheet-of s c) slots) × Stands (sheet-of s c) (c .e) (x .next * (c .n + 1)) k ids covered coverage (x .course)
+      unfolding So-far
+      stands-now = rw (g .running h) at (g .so-far)
+
+      -- the room for one leg more
+      pub room : (i : ℕ) → i ≤ x .next * (c .n + 1) → i + c .n + 1 ≤ most-entries (c .p) (c .n)
+      room i few =
+          let one = rows-more (x .next) row in
+          let all = rows-fit (x .next + 1) (c .p + 4) row (omega arith) in
+          omega arith
+
+      -- where another leg comes, it is the next one
+      pub next-one : (e : LegEnd) → advanced summed x (c .p) e .next + 1 < c .p → advanced summed x (c .p) e .next ≡ x .next + 1
+      unfolding advanced
+      next-one (E.Walked w) h = refl
+      next-one E.NoPath h = absurd (omega arith)
+      next-one E.HeapFull h = absurd (omega arith)
+
+      pub nearer : (e : LegEnd) → c .p - advanced summed x (c .p) e .next < c .p - x .next
+      unfolding advanced
+      nearer (E.Walked w) = omega arith
+      nearer E.NoPath = omega arith
+      nearer E.HeapFull = omega arith
+
+      -- the leg's roads stand behind those already written
+      module _ (ids₁ out covered₁ : List ℕ) (coverage₁ : List Float) (split : (m : ℕ) → m ≤ c .n + 1 → take (x .course .written + m) ids₁ ≡ take (x .course .written) ids ++ take m out) where
+        abbrev k : Course
+        k = stands-now .0
+
+        abbrev stands : Stands (sheet-of s c) (c .e) (x .next * (c .n + 1)) k ids covered coverage (x .course)
+        stands = stands-now .2
+
+        next-is : (so : Sought) → leg-sought t slots (x .next) ≡ so → after-leg (x .next) so (λ r. from-by summed (x .next + 1) (course-by summed (x .next) k (leg-from s c (x .next)) r)) ≡ legs-of summed t slots
+        next-is so is =
+            ap (λ (z : Sought). after-leg (x .next) z (λ r. from-by summed (x .next + 1) (course-by summed (x .next) k (leg-from s c (x .next)) r))) (sym is)
+            ∙ sym (by-step summed (g .two) (x .next) k h)
+            ∙ stands-now .1
+
+        abbrev Walks-so : Bool → Route → Walked → Type 0
+        Walks-so b r w = Walks (sheet-of s c) c b (leg-limits (sheet-of s c) (x .next) .dnp) (last (take (x .course .written) ids)) (coverages-at (sheet-of s c) (x .course .covered) covered coverage) (x .course .covered) r out covered₁ coverage₁ w
+
+        module _ (r : Route) (w : Walked) where
+          -- of a line
+          module _ (walks : Walks-so true r w) where
+            segment-is : segment-as (w .segment) ≡ segment-of (leg-from s c (x .next)) r
+            unfolding segment-of
+            segment-is = walks .segment
+
+            first-is : (b : Bool) → segment-as (cond b (w .segment) (x .course .first)) ≡ cond b (segment-of (leg-from s c (x .next)) r) (k .first-segment)
+            first-is true = segment-is
+            first-is false = stands .runs .first
+
+            line-stands : Stands (sheet-of s c) (c .e) ((x .next + 1) * (c .n + 1)) (extended (x .next) k (leg-from s c (x .next)) r) ids₁ covered₁ coverage₁ (extended-by true (x .next) (x .course) w)
+            unfolding extended cover-all segment-of
+            line-stands =
+                let one = rows-more (x .next) row in
+                record {
+                  runs = record {
+                    roads =
+                        split (w .written) (walks .few)
+                        ∙ ap (λ (l : List ℕ). take (x .course .written) ids ++ l) (walks .roads)
+                        ∙ ap (λ (l : List ℕ). l ++ fresh (last l) (road-numbers (roads-of r))) (stands .runs .roads)
+                        ∙ sym (append-numbers (k .roads) (roads-of r));
+                    total = ap (λ (y : Float). y ⊕ w .segment .«length_m») (stands .runs .total) ∙ ap (λ (y : decode.Segment). k .total ⊕ y .length-m) segment-is;
+                    first = first-is (eqb (x .next) 0);
+                    last = segment-is;
+                  };
+                  coverages = walks .coverages ∙ ap (λ ks. cover-all true ks (r .coverages)) (stands .coverages);
+                  few-roads = (let a = stands .few-roads in let b = walks .few in omega arith);
+                  few-coverages = (let a = stands .few-coverages in let b = walks .most in omega arith);
+                  below = walks .below;
+                }
+
+          -- of a point along line: nothing is written yet
+          module _ (alone : c .p ≡ 2) (walks : Walks-so false r w) where
+            first-leg : x .next ≡ 0
+            first-leg = omega arith
+
+            nothing-yet : (n : ℕ) → n ≤ x .next * (c .n + 1) → n ≡ 0
+            nothing-yet n few =
+                let none : x .next * (c .n + 1) ≡ 0 = ap (λ (i : ℕ). i * (c .n + 1)) first-leg ∙ zero-mul (c .n + 1) in
+                omega arith
+
+            point-stands : Stands (sheet-of s c) (c .e) ((x .next + 1) * (c .n + 1)) (course-of (leg-from s c (x .next)) r) ids₁ covered₁ coverage₁ (extended-by false (x .next) (x .course) w)
+            unfolding course-of cover-all segment-of coverages-at tab fresh last
+            point-stands =
+                let one = rows-more (x .next) row in
+                let written : x .course .written ≡ 0 = nothing-yet _ (stands .few-roads) in
+                let covered-none : x .course .covered ≡ 0 = nothing-yet _ (stands .few-coverages) in
+                record {
+                  runs = record {
+                    roads =
+                        split (w .written) (walks .few)
+                        ∙ ap (λ (l : List ℕ). take (x .course .written) ids ++ l) (walks .roads)
+                        ∙ ap (λ (n : ℕ). take n ids ++ fresh (last (take n ids)) (road-numbers (roads-of r))) written
+                        ∙ sym (skip-none (road-numbers (roads-of r)));
+                    total = ap (λ (y : decode.Segment). y .length-m) (walks .segment);
+                    first = ap (λ (b : Bool). segment-as (cond b (w .segment) (x .course .first))) (eq-eqb (x .next) 0 first-leg) ∙ walks .segment;
+                    last = walks .segment;
+                  };
+                  coverages = walks .coverages ∙ ap (λ (n : ℕ). cover-all false (coverages-at (sheet-of s c) n covered coverage) (r .coverages)) covered-none;
+                  few-roads = (let a = stands .few-roads in let b = walks .few in omega arith);
+                  few-coverages = (let a = stands .few-coverages in let b = walks .most in omega arith);
+                  below = walks .below;
+                }
+
+          stands-on : (b : Bool) → (b ≡ false → c .p ≡ 2) → Walks-so b r w → Stands (sheet-of s c) (c .e) ((x .next + 1) * (c .n + 1)) (course-by b (x .next) k (leg-from s c (x .next)) r) ids₁ covered₁ coverage₁ (extended-by b (x .next) (x .course) w)
+          unfolding course-by
+          stands-on true two walks = line-stands walks
+          stands-on false two walks = point-stands (two refl) walks
+
+        pub going-on : (e : LegEnd)
+            → Leaves (sheet-of s c) c summed (leg-limits (sheet-of s c) (x .next) .dnp) (last (take (x .course .written) ids)) (coverages-at (sheet-of s c) (x .course .covered) covered coverage) (x .course .covered) (leg-sought (sheet-of s c) slots (x .next)) out covered₁ coverage₁ e
+            → Going ids₁ covered₁ coverage₁ (advanced summed x (c .p) e)
+        unfolding Leaves So-far advanced after-leg
+        going-on (E.Walked w) left = record {
+          in-range = omega arith;
+          two = g .two;
+          running = λ g. refl;
+          so-far = (course-by summed (x .next) k (leg-from s c (x .next)) (left .0), next-is (best (left .0)) (left .1), stands-on (left .0) w summed (g .two) (left .2));
+        }
+        going-on E.NoPath left = record { in-range = omega arith; two = g .two; running = λ g. absurd (omega arith); so-far = (sym (next-is no-path left), omega arith) }
+        going-on E.HeapFull left = record { in-range = omega arith; two = g .two; running = λ g. absurd (omega arith); so-far = sym (next-is heap-full left) }
+
+    -- ---- the end of the legs
+
+    more-room : (few most : ℕ) → few ≤ most → {k : Course} {ids covered : List ℕ} {coverage : List Float} {x : code.Course} → Stands (sheet-of s c) (c .e) few k ids covered coverage x → Stands (sheet-of s c) (c .e) most k ids covered coverage x
+    more-room few most h f = record {
+      runs = f .runs;
+      coverages = f .coverages;
+      few-roads = (let a = f .few-roads in omega arith);
+      few-coverages = (let a = f .few-coverages in omega arith);
+      below = f .below;
+    }
+
+    pub going-end : {ids covered : List ℕ} {coverage : List Float} {x : Legs} → Going ids covered coverage x → c .p ≤ x .next + 1 → Ends (sheet-of s c) c (legs-of summed (sheet-of s c) slots) ids covered coverage (x .end) (x .course)
+    unfolding So-far Ends
+    going-end {ids} {covered} {coverage} {x} g h = go (x .end) (g .so-far)
+      where
+        go : (e : End) → So-far (x .next) ids covered coverage e (x .course) → Ends (sheet-of s c) c (legs-of summed (sheet-of s c) slots) ids covered coverage e (x .course)
+        go D.Done f = (f .0, sym (f .1) ∙ by-end summed (g .two) (x .next) (f .0) h, more-room (x .next * row) (c .p * row) (rows-fit (x .next) (c .p) row (g .in-range)) (f .2))
+        go (D.NoPath j) f = f
+        go (D.HeapFull j) f = f

@@ -92,12 +92,15 @@ Ends t c o ids covered coverage D.Done x = (k : Course) × (o ≡ with-primary (
 Ends t c o ids covered coverage (D.NoPath i) x = (o ≡ refused 10 i (i + 1)) × (i < c .p)
 Ends t c o ids covered coverage (D.HeapFull i) x = o ≡ refused 11 i 0
 
--- what the legs of a line come to, and the one leg of a point along line
+-- what the legs of a line come to, the one leg of a point along line, and either: the legs of a line are summed
 abbrev pub line : Sheet → ℕ → Outcome
 line t slots = decode-line (view t) (bounded-astar slots) 0 no-course (candidates-at t 0) (view t .legs) (drop 1 (candidates-of t))
 
 abbrev pub point-along-line : Sheet → ℕ → Outcome
 point-along-line t slots = decode-point-along-line (view t) (bounded-astar slots) (candidates-at t 0) (view t .legs) (drop 1 (candidates-of t))
+
+abbrev pub legs-of : Bool → Sheet → ℕ → Outcome
+legs-of summed t slots = cond summed (line t slots) (point-along-line t slots)
 
 -- ---- the legs so far, by value
 
@@ -107,24 +110,19 @@ no-walk = record { «length_m» = f0; «expected_m» = f0; «start_offset» = f0
 abbrev pub nothing-walked : Legs
 nothing-walked = record { next = 0; end = D.Done; course = record { written = 0; covered = 0; total = f0; first = no-walk; last = no-walk } }
 
-abbrev pub extended-by : ℕ → code.Course → Walked → code.Course
-extended-by i x w = record {
+abbrev pub extended-by : Bool → ℕ → code.Course → Walked → code.Course
+extended-by summed i x w = record {
   written = x .written + w .written;
   covered = w .covered;
-  total = x .total ⊕ w .segment .«length_m»;
+  total = cond summed (x .total ⊕ w .segment .«length_m») (w .segment .«length_m»);
   first = cond (eqb i 0) (w .segment) (x .first);
   last = w .segment;
 }
 
-unfoldable pub advanced : Legs → ℕ → LegEnd → Legs
-advanced x points (E.Walked w) = record { next = x .next + 1; end = D.Done; course = extended-by (x .next) (x .course) w }
-advanced x points E.NoPath = record { next = points; end = D.NoPath (x .next); course = x .course }
-advanced x points E.HeapFull = record { next = points; end = D.HeapFull (x .next); course = x .course }
-
-unfoldable pub alone-of : Legs → LegEnd → Legs
-alone-of x (E.Walked w) = record { next = 1; end = D.Done; course = record { written = w .written; covered = w .covered; total = w .segment .«length_m»; first = w .segment; last = w .segment } }
-alone-of x E.NoPath = record { next = 1; end = D.NoPath 0; course = x .course }
-alone-of x E.HeapFull = record { next = 1; end = D.HeapFull 0; course = x .course }
+unfoldable pub advanced : Bool → Legs → ℕ → LegEnd → Legs
+advanced summed x points (E.Walked w) = record { next = x .next + 1; end = D.Done; course = extended-by summed (x .next) (x .course) w }
+advanced summed x points E.NoPath = record { next = points; end = D.NoPath (x .next); course = x .course }
+advanced summed x points E.HeapFull = record { next = points; end = D.HeapFull (x .next); course = x .course }
 
 -- a leg writes few roads
 unfoldable pub Short : LegEnd → Type 0

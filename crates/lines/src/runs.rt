@@ -1,26 +1,27 @@
-// The legs of a line one after the other, and the one leg of a point along line.
+// The legs of a reference one after the other.
 use crate::Legs;
 use crate::leg;
 use crate::steps;
 use candidates::find;
-use courses::Last;
 use courses::path;
 use model::Counts;
 use model::Settings;
 ghost use mathlib.Core.Path.{_≡_};
+ghost use mathlib.Core.Bool.{false};
 ghost use Prim.Native.Nat.{_+_, _≤_, _<_};
 ghost use lib.ListN.{length};
 ghost use Rattle.model.specs.Judge.{WellFormed};
 ghost use Rattle.model.specs.Sheet.{sheet-of};
 ghost use Rattle.model.specs.Call.{most-entries};
 ghost use Rattle.search.specs.Areas.{columns, Sized};
-ghost use Rattle.lines.specs.Legs.{line, point-along-line, Ends};
+ghost use Rattle.lines.specs.Legs.{legs-of, Ends};
 
-// decode_line: each leg behind the roads already written. The candidates of its end are those of the next leg's start.
-pub fn decode_line(
+// decode_line, where lengths and coverages are summed, and decode_point_along_line, whose one leg is not. Each leg writes behind the roads already there; the candidates of its end are those of the next leg's start.
+pub fn walk_legs(
     s: &[u8],
     c: Counts,
     set: Settings,
+    summed: bool,
     slots: usize,
     labels: &mut [f64],
     came_from: &mut [usize],
@@ -32,10 +33,10 @@ pub fn decode_line(
     coverage: &mut [f64],
     ids: &mut [u64],
 ) -> Legs
-    requires { ⌜ WellFormed (now s) c × (set ≡ sheet-of (now s) c .settings) × (0 < c .n) × (0 < c .p) ⌝ }
+    requires { ⌜ WellFormed (now s) c × (set ≡ sheet-of (now s) c .settings) × (0 < c .n) × (0 < c .p) × (summed ≡ false → c .p ≡ 2) ⌝ }
     requires { ⌜ (most-entries (c .p) (c .n) ≤ length (now covered)) × (most-entries (c .p) (c .n) ≤ length (now coverage)) × (most-entries (c .p) (c .n) ≤ length (now ids)) ⌝ }
     requires { ⌜ (0 < slots) × (c .n ≤ length (now route)) × (c .n ≤ length (now «best_route»)) × Sized (c .n) slots (columns (c .n) slots (now labels) (now «came_from») (now entries) (now links) 0 0) ⌝ }
-    ensures { λ r. ⌜ Ends (sheet-of (now (s .entry)) c) c (line (sheet-of (now (s .entry)) c) slots) (now (ids .exit)) (now (covered .exit)) (now (coverage .exit)) (r .end) (r .course) ⌝ }
+    ensures { λ r. ⌜ Ends (sheet-of (now (s .entry)) c) c (legs-of summed (sheet-of (now (s .entry)) c) slots) (now (ids .exit)) (now (covered .exit)) (now (coverage .exit)) (r .end) (r .course) ⌝ }
 {
     let points = c.p;
     let mut run = steps::begin();
@@ -53,7 +54,7 @@ pub fn decode_line(
             starts,
             ends,
             run.next,
-            true,
+            summed,
             last,
             n0,
             slots,
@@ -68,55 +69,7 @@ pub fn decode_line(
             &mut ids[at..],
         );
         starts = ends;
-        run = steps::advance(run, points, end);
+        run = steps::advance(summed, run, points, end);
     }
     run
-}
-
-// decode_point_along_line: its one leg, whose coverage is not summed.
-pub fn decode_point_along_line(
-    s: &[u8],
-    c: Counts,
-    set: Settings,
-    slots: usize,
-    labels: &mut [f64],
-    came_from: &mut [usize],
-    route: &mut [usize],
-    best_route: &mut [usize],
-    entries: &mut [f64],
-    links: &mut [usize],
-    covered: &mut [usize],
-    coverage: &mut [f64],
-    ids: &mut [u64],
-) -> Legs
-    requires { ⌜ WellFormed (now s) c × (set ≡ sheet-of (now s) c .settings) × (0 < c .n) × (c .p ≡ 2) ⌝ }
-    requires { ⌜ (most-entries (c .p) (c .n) ≤ length (now covered)) × (most-entries (c .p) (c .n) ≤ length (now coverage)) × (most-entries (c .p) (c .n) ≤ length (now ids)) ⌝ }
-    requires { ⌜ (0 < slots) × (c .n ≤ length (now route)) × (c .n ≤ length (now «best_route»)) × Sized (c .n) slots (columns (c .n) slots (now labels) (now «came_from») (now entries) (now links) 0 0) ⌝ }
-    ensures { λ r. ⌜ Ends (sheet-of (now (s .entry)) c) c (point-along-line (sheet-of (now (s .entry)) c) slots) (now (ids .exit)) (now (covered .exit)) (now (coverage .exit)) (r .end) (r .course) ⌝ }
-{
-    let run = steps::begin();
-    let starts = find::find_candidates(s, c, set, 0);
-    let ends = find::find_candidates(s, c, set, 1);
-    let end = leg::walk_leg(
-        s,
-        c,
-        set,
-        starts,
-        ends,
-        0,
-        false,
-        Last::Nothing,
-        0,
-        slots,
-        labels,
-        came_from,
-        route,
-        best_route,
-        entries,
-        links,
-        covered,
-        coverage,
-        ids,
-    );
-    steps::alone(run, end)
 }

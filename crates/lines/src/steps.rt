@@ -9,7 +9,8 @@ ghost use mathlib.Core.Path.{_≡_};
 ghost use mathlib.Core.Bool.{cond};
 ghost use Prim.Native.Nat.{_≤_};
 ghost use lib.Dec.{eqb};
-ghost use Rattle.lines.specs.Legs.{nothing-walked, extended-by, advanced, alone-of, Short};
+ghost use Rattle.model.specs.Numbers.{_⊕_};
+ghost use Rattle.lines.specs.Legs.{nothing-walked, extended-by, advanced, Short};
 
 // No leg walked yet.
 pub fn begin() -> Legs
@@ -41,32 +42,40 @@ fn first_segment(i: usize, segment: Segment, first: Segment) -> Segment
     if i == 0 { segment } else { first }
 }
 
-// The course after leg i of a line.
-fn extended(i: usize, x: Course, w: Walked) -> Course
+// The sum of the legs; the one leg of a point along line is not added to 0.
+fn total_with(summed: bool, total: f64, length: f64) -> f64
+    ensures { λ r. ⌜ r ≡ cond summed (total ⊕ length) length ⌝ }
+{
+    if summed { total + length } else { length }
+}
+
+// The course after leg i.
+fn extended(summed: bool, i: usize, x: Course, w: Walked) -> Course
     requires { ⌜ (x .written ≤ 1000000) × (w .written ≤ 1000000) ⌝ }
-    ensures { λ r. ⌜ r ≡ extended-by i x w ⌝ }
+    ensures { λ r. ⌜ r ≡ extended-by summed i x w ⌝ }
 {
     let segment = w.segment;
     let first = first_segment(i, segment, x.first);
+    let total = total_with(summed, x.total, segment.length_m);
     Course {
         written: x.written + w.written,
         covered: w.covered,
-        total: x.total + segment.length_m,
+        total,
         first,
         last: segment,
     }
 }
 
-// The legs of a line after the next one has ended so; `points` ends them.
-pub fn advance(x: Legs, points: usize, e: LegEnd) -> Legs
+// The legs after the next one has ended so; `points` ends them.
+pub fn advance(summed: bool, x: Legs, points: usize, e: LegEnd) -> Legs
     requires { ⌜ (x .next ≤ 1000000) × (x .course .written ≤ 1000000) × Short e ⌝ }
-    ensures { λ r. ⌜ r ≡ advanced x points e ⌝ }
+    ensures { λ r. ⌜ r ≡ advanced summed x points e ⌝ }
 {
     let i = x.next;
     let course = x.course;
     match e {
         LegEnd::Walked(w) => {
-            let longer = extended(i, course, w);
+            let longer = extended(summed, i, course, w);
             Legs {
                 next: i + 1,
                 end: End::Done,
@@ -82,39 +91,6 @@ pub fn advance(x: Legs, points: usize, e: LegEnd) -> Legs
             next: points,
             end: End::HeapFull(i),
             course,
-        },
-    }
-}
-
-// The one leg of a point along line.
-pub fn alone(x: Legs, e: LegEnd) -> Legs
-    ensures { λ r. ⌜ r ≡ alone-of x e ⌝ }
-{
-    let none = x.course;
-    match e {
-        LegEnd::Walked(w) => {
-            let segment = w.segment;
-            Legs {
-                next: 1,
-                end: End::Done,
-                course: Course {
-                    written: w.written,
-                    covered: w.covered,
-                    total: segment.length_m,
-                    first: segment,
-                    last: segment,
-                },
-            }
-        }
-        LegEnd::NoPath => Legs {
-            next: 1,
-            end: End::NoPath(0),
-            course: none,
-        },
-        LegEnd::HeapFull => Legs {
-            next: 1,
-            end: End::HeapFull(0),
-            course: none,
         },
     }
 }

@@ -1,9 +1,11 @@
 -- The definition before the legs: the kind, the points, and that a point with a candidate needs a node.
 use Prim.Native.Nat.{ℕ, _≤_, _<_}
 use mathlib.Core.Path.{_≡_, refl, sym, ap, _∙_, subst}
+use mathlib.Core.Bool.{Bool, true, false, not}
 use mathlib.Core.List.{List, [], _∷_}
 use native.Mathlib.Omega.{arith}
-use borrow.Author.Tests.{lt-ltb, le-ltb, eq-eqb, ne-eqb, eqb-true}
+use borrow.Author.Tests.{lt-ltb, le-ltb, eq-eqb, eqb-true}
+use lib.Dec.{T, eqb}
 use lib.ListN.{length, getD, drop}
 use lib.Seq.{drop-cons}
 use lib.Ieee.{Float}
@@ -26,8 +28,9 @@ use Rattle.candidates.specs.declared.closest.Points.the-variants.{Fine, NoCandi
 use Rattle.candidates.specs.Found.{no-stop, stop-at, candidates-at}
 use Rattle.candidates.specs.Points.{candidates-of, judge-points, points-of, after-points}
 use Rattle.candidates.proofs.Rules.{candidates-are, decode-sheet-after}
+use Rattle.lines.specs.Legs.{legs-of}
 use Rattle.references.specs.declared.Ahead.the-variants as A
-use Rattle.references.specs.Reference.{Asks, outcome-with, Looks}
+use Rattle.references.specs.Reference.{outcome-with, Looks}
 
 abbrev Is-fine : Points → Type 0
 Is-fine Fine = Unit {0}
@@ -97,8 +100,11 @@ module _ (s : List ℕ) (c : Counts) (w : WellFormed s c) where
           let road = found-on-roads wf (stop-at t 0) stop (x .0) (x .1) in
           omega (arith, wf .roads (x .0 .road) road .target, node-count s c)
 
-      pub legs-come : (x : A.the-data) → Asks (c .kind) x → Looks (sheet-of s c) c x
-      unfolding Asks Looks decode-legs
-      legs-come (A.Refused n a) h = absurd h
-      legs-come A.Line h = (some, some-node, λ slots. to-legs slots ∙ rw (kind-is, ne-eqb (c .kind) point-along-line h))
-      legs-come A.PointAlongLine h = (two h, some-node, λ slots. to-legs slots ∙ rw (kind-is, eq-eqb (c .kind) point-along-line h))
+      -- the legs of a line are summed
+      pub legs-come : Looks (sheet-of s c) c (A.Legs (not (eqb (c .kind) point-along-line)))
+      unfolding Looks decode-legs
+      legs-come = go (eqb (c .kind) point-along-line) refl
+        where
+          go : (b : Bool) → eqb (c .kind) point-along-line ≡ b → (0 < c .p) × (0 < c .n) × (not b ≡ false → c .p ≡ 2) × ((slots : ℕ) → outcome-with t slots ≡ legs-of (not b) t slots)
+          go true e = (some, some-node, λ h. two (eqb-true (c .kind) point-along-line e), λ slots. to-legs slots ∙ rw (kind-is, e))
+          go false e = (some, some-node, λ h. absurd (subst T h tt), λ slots. to-legs slots ∙ rw (kind-is, e))

@@ -1,6 +1,7 @@
 -- How a reference ends, by how its legs end.
 use Prim.Native.Nat.{ℕ, _+_, _≤_, _<_}
 use mathlib.Core.Path.{_≡_, sym, subst}
+use mathlib.Core.Bool.{Bool, false}
 use mathlib.Core.List.{List}
 use native.Mathlib.Omega.{arith}
 use lib.Ieee.{Float}
@@ -45,13 +46,9 @@ module _ (t : Sheet) (c : Counts) (x : A.the-data) (looks : Looks t c x) where
   unfolding Looks Comes
   refused-ahead n a is slots ids covered coverage = (rw is at looks) slots
 
-  pub line-ahead : x ≡ A.Line → (0 < c .p) × (0 < c .n) × ((slots : ℕ) → outcome-with t slots ≡ legs.line t slots)
+  pub legs-ahead : (summed : Bool) → x ≡ A.Legs summed → (0 < c .p) × (0 < c .n) × (summed ≡ false → c .p ≡ 2) × ((slots : ℕ) → outcome-with t slots ≡ legs.legs-of summed t slots)
   unfolding Looks
-  line-ahead is = rw is at looks
-
-  pub point-ahead : x ≡ A.PointAlongLine → (c .p ≡ 2) × (0 < c .n) × ((slots : ℕ) → outcome-with t slots ≡ legs.point-along-line t slots)
-  unfolding Looks
-  point-ahead is = rw is at looks
+  legs-ahead summed is = rw is at looks
 
 module _ (t : Sheet) (c : Counts) (o o₁ : decode.Outcome) (ids covered : List ℕ) (coverage : List Float) (e : End) (x : Course) (ends : Ends t c o₁ ids covered coverage e x) where
   pub ends-as : o ≡ o₁ → Ends t c o ids covered coverage e x

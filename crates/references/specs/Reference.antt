@@ -1,11 +1,11 @@
 -- What the code's answers stand for in the definition.
 use Prim.Native.Nat.{ℕ, _+_, _*_, _<_}
 use mathlib.Core.Path.{_≡_}
-use mathlib.Core.Logic.{_≢_}
+use mathlib.Core.Bool.{false}
 use mathlib.Core.List.{List}
 use lib.Ieee.{Float}
 use Rattle.model.specs.declared.Counts.{Counts}
-use Rattle.model.specs.Layout.{most-points, point-along-line}
+use Rattle.model.specs.Layout.{most-points}
 use Rattle.model.specs.Sheet.{Sheet}
 use Rattle.model.specs.View.{view}
 use Rattle.model.specs.Search.{bounded-astar}
@@ -22,12 +22,6 @@ use Rattle.references.specs.declared.Outcome.the-variants as O
 
 -- ---- before the legs
 
--- a point along line by its kind
-unfoldable pub Asks : ℕ → Ahead → Type 0
-Asks kind (A.Refused n a) = ⊥
-Asks kind A.Line = kind ≢ point-along-line
-Asks kind A.PointAlongLine = kind ≡ point-along-line
-
 -- the outcome of the sheet t with a heap of `slots` entries
 abbrev pub outcome-with : Sheet → ℕ → decode.Outcome
 outcome-with t slots = outcome (view t) (bounded-astar slots)
@@ -35,8 +29,7 @@ outcome-with t slots = outcome (view t) (bounded-astar slots)
 -- refused, or the legs come, between points with candidates
 unfoldable pub Looks : Sheet → Counts → Ahead → Type 0
 Looks t c (A.Refused n a) = (slots : ℕ) → outcome-with t slots ≡ refused n a 0
-Looks t c A.Line = (0 < c .p) × (0 < c .n) × ((slots : ℕ) → outcome-with t slots ≡ legs.line t slots)
-Looks t c A.PointAlongLine = (c .p ≡ 2) × (0 < c .n) × ((slots : ℕ) → outcome-with t slots ≡ legs.point-along-line t slots)
+Looks t c (A.Legs summed) = (0 < c .p) × (0 < c .n) × (summed ≡ false → c .p ≡ 2) × ((slots : ℕ) → outcome-with t slots ≡ legs.legs-of summed t slots)
 
 -- ---- after the legs
 

@@ -22,7 +22,7 @@ ghost use Rattle.model.specs.Decode as decode;
 ghost use Rattle.model.specs.Call.{most-entries};
 ghost use Rattle.search.specs.Areas.{columns, Sized};
 ghost use Rattle.lines.specs.Legs.{Ends};
-ghost use Rattle.references.specs.Reference.{Asks, Looks, Placed, Comes};
+ghost use Rattle.references.specs.Reference.{Looks, Placed, Comes};
 
 // How a reference ends before the walks at its ends: refused with its number, A and B, or with a course.
 pub enum Outcome {
@@ -30,21 +30,10 @@ pub enum Outcome {
     Legs(Course),
 }
 
-// What comes before the legs: a refusal's number and A, or the legs of a line, or the leg of a point along line.
+// What comes before the legs: a refusal's number and A, or the legs, which are summed for a line.
 pub enum Ahead {
     Refused(usize, usize),
-    Line,
-    PointAlongLine,
-}
-
-// Which legs there are, once every point has its candidates.
-fn legs_of(kind: usize) -> Ahead
-    ensures { λ r. ⌜ Asks kind r ⌝ }
-{
-    if kind == POINT_ALONG_LINE {
-        return Ahead::PointAlongLine;
-    }
-    Ahead::Line
+    Legs(bool),
 }
 
 // Refusals 7 to 9, in the order of the table.
@@ -60,7 +49,7 @@ pub fn look_ahead(s: &[u8], c: Counts) -> Ahead
     }
     let found = closest::require_close_candidate(s, c);
     match found {
-        Points::Fine => legs_of(c.kind),
+        Points::Fine => Ahead::Legs(c.kind != POINT_ALONG_LINE),
         Points::NoCandidate(i) => Ahead::Refused(9, i),
     }
 }
@@ -103,29 +92,12 @@ pub fn decode_legs(
     let ahead = look_ahead(s, c);
     match ahead {
         Ahead::Refused(number, place) => Outcome::Refused(number, place, 0),
-        Ahead::Line => {
-            let run = runs::decode_line(
+        Ahead::Legs(summed) => {
+            let run = runs::walk_legs(
                 s,
                 c,
                 set,
-                slots,
-                labels,
-                came_from,
-                route,
-                best_route,
-                entries,
-                links,
-                covered,
-                coverage,
-                ids,
-            );
-            ended(run)
-        }
-        Ahead::PointAlongLine => {
-            let run = runs::decode_point_along_line(
-                s,
-                c,
-                set,
+                summed,
                 slots,
                 labels,
                 came_from,

@@ -17,16 +17,11 @@ require-close-candidate-requires c κs = c .before .before .before .before .befo
 enum-told : tie.Need-enum-told
 enum-told c = search needs
 
-legs-of-requires : tie.Need-legs-of-requires
-legs-of-requires c κs = search needs
-
 enum-known-found : tie.Need-enum-known-found
 enum-known-found c = search needs
 
 returns-3 : tie.Need-returns-3
-returns-3 c = (
-    legs-come (c .before .before .before .before .before .before .before .before .before .args .s .now) (c .before .before .before .before .before .before .before .before .before .args .c) (c .before .before .before .before .before .before .before .before .before .pre) (c .before .before .before .before .before .before .if1 .left) (omega (arith, c .before .before .before .before .if2 .left)) (sym (c .before .enum-told .given .1) ∙ c .before .before .before .require-close-candidate .ensures) (c .legs-of .result) (c .legs-of .ensures)
-    )
+returns-3 c = legs-come (c .before .before .before .before .before .before .before .before .before .args .s .now) (c .before .before .before .before .before .before .before .before .before .args .c) (c .before .before .before .before .before .before .before .before .before .pre) (c .before .before .before .before .before .before .if1 .left) (omega (arith, c .before .before .before .before .if2 .left)) (sym (c .before .enum-told .given .1) ∙ c .before .before .before .require-close-candidate .ensures)
 
 returns-4 : tie.Need-returns-4
 returns-4 c = (no-candidate (c .before .before .before .before .before .before .before .before .before .args .s .now) (c .before .before .before .before .before .before .before .before .before .args .c) (c .before .before .before .before .before .before .before .before .before .pre) (c .before .before .before .before .before .before .if1 .left) _ (sym (c .before .found .given .1) ∙ c .before .before .before .require-close-candidate .ensures))
@@ -39,7 +34,6 @@ look-ahead-spec =
     returns-2
     require-close-candidate-requires
     enum-told
-    legs-of-requires
     enum-known-found
     returns-3
     returns-4)

@@ -11,8 +11,8 @@ unfolding Short
 extended-requires c κs = let p = c .before .before .before .before .pre in
     (p .1, rw (c .before .e .given .1) at (p .2))
 
-add-t9 : tie.Need-add-t9
-add-t9 c = search needs
+add-t10 : tie.Need-add-t10
+add-t10 c = search needs
 
 enum-told : tie.Need-enum-told
 enum-told c = search needs
@@ -38,7 +38,7 @@ advance-spec =
     (tie.spec
     enum-known-e
     extended-requires
-    add-t9
+    add-t10
     enum-told
     enum-told-2
     returns

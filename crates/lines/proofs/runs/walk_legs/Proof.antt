@@ -10,16 +10,16 @@ use lib.ListN.{length}
 use borrow.Author.Needs.{needs}
 use native.Mathlib.Omega.{arith}
 use mathlib.Core.Path.{_≡_, refl, sym, _∙_, subst}
-use Rattle.lines.proofs.runs.decode_line.Statement.{statement}
-use Rattle.lines.proofs.runs.decode_line.Tie as tie
+use Rattle.lines.proofs.runs.walk_legs.Statement.{statement}
+use Rattle.lines.proofs.runs.walk_legs.Tie as tie
 
 abbrev Inv-loop : tie.InvT-loop
-Inv-loop s c set slots labels₀ came-from₀ route₀ best-route₀ entries₀ links₀ covered₀ coverage₀ ids₀ points run₀ starts₀ labels came-from route best-route entries links covered coverage ids run starts =
+Inv-loop s c set summed slots labels₀ came-from₀ route₀ best-route₀ entries₀ links₀ covered₀ coverage₀ ids₀ points run₀ starts₀ labels came-from route best-route entries links covered coverage ids run starts =
     Kept (columns (c .n) slots labels₀ came-from₀ entries₀ links₀ 0 0) (columns (c .n) slots labels came-from entries links 0 0) route₀ route best-route₀ best-route
-    × (length covered ≡ length covered₀) × (length coverage ≡ length coverage₀) × (length ids ≡ length ids₀) × Going s c slots ids covered coverage run × (run .next + 1 < c .p → Lists (sheet-of s c) c (run .next) starts)
+    × (length covered ≡ length covered₀) × (length coverage ≡ length coverage₀) × (length ids ≡ length ids₀) × Going s c slots summed ids covered coverage run × (run .next + 1 < c .p → Lists (sheet-of s c) c (run .next) starts)
 
 abbrev μ-loop : tie.MeasureT-loop
-μ-loop s c set slots labels₀ came-from₀ route₀ best-route₀ entries₀ links₀ covered₀ coverage₀ ids₀ points run₀ starts₀ labels came-from route best-route entries links covered coverage ids run starts =
+μ-loop s c set summed slots labels₀ came-from₀ route₀ best-route₀ entries₀ links₀ covered₀ coverage₀ ids₀ points run₀ starts₀ labels came-from route best-route entries links covered coverage ids run starts =
     points - run .next
 
 begin-requires : tie.Need-begin-requires Inv-loop μ-loop
@@ -29,15 +29,15 @@ find-candidates-requires : tie.Need-find-candidates-requires Inv-loop μ-loop
 find-candidates-requires c κs = (c .before .before .before .before .before .before .before .before .before .before .before .pre .0 .0, c .before .before .before .before .before .before .before .before .before .before .before .pre .0 .3, c .before .before .before .before .before .before .before .before .before .before .before .pre .0 .1)
 
 loop-holds : tie.Need-loop-holds Inv-loop μ-loop
-loop-holds c = (kept-start _ _ _, refl, refl, refl, subst (Going _ _ _ _ _ _) (sym (c .before .begin .ensures)) (going-start _ _ _ _ _ _), λ h. rw (c .before .begin .ensures) (c .find-candidates .ensures))
+loop-holds c = (kept-start _ _ _, refl, refl, refl, subst (Going _ _ _ _ _ _ _) (sym (c .before .begin .ensures)) (going-start _ _ _ _ (c .before .before .before .before .before .before .before .before .before .before .before .before .pre .0 .4) _ _ _), λ h. rw (c .before .begin .ensures) (c .find-candidates .ensures))
 
 add-if1 : tie.Need-add-if1 Inv-loop μ-loop
 add-if1 c = omega (arith, c .before .loop .inv .4 .in-range, c .before .before .before .before .before .before .before .before .before .before .before .before .before .before .pre .0 .0 .sound .small .p)
 
 last-written-requires : tie.Need-last-written-requires Inv-loop μ-loop
 last-written-requires c κs = let a = c .before .before .before .loop in
-    let now = stands-now _ _ _ (a .inv .4) (c .before .if1 .taken) in
-    omega (arith, room _ _ _ (a .inv .4) (c .before .if1 .taken) _ (now .2 .few-roads), a .inv .3, c .before .before .before .before .before .before .before .before .before .before .before .before .before .before .before .before .pre .1 .0 .2)
+    let now = stands-now _ _ _ _ (a .inv .4) (c .before .if1 .taken) in
+    omega (arith, room _ _ _ _ (a .inv .4) (c .before .if1 .taken) _ (now .2 .few-roads), a .inv .3, c .before .before .before .before .before .before .before .before .before .before .before .before .before .before .before .before .pre .1 .0 .2)
 
 add-to : tie.Need-add-to Inv-loop μ-loop
 add-to c = omega (arith, c .before .before .before .before .before .loop .inv .4 .in-range, c .before .before .before .before .before .before .before .before .before .before .before .before .before .before .before .before .before .before .pre .0 .0 .sound .small .p)
@@ -47,31 +47,31 @@ find-candidates-requires-2 c κs = (c .before .before .before .before .before .b
 
 mul-walk-leg : tie.Need-mul-walk-leg Inv-loop μ-loop
 mul-walk-leg c = let a = c .before .before .before .before .before .before .before .before .before .before .before .before .before .before .loop in
-    let now = stands-now _ _ _ (a .inv .4) (c .before .before .before .before .before .before .before .before .before .before .before .before .if1 .taken) in
+    let now = stands-now _ _ _ _ (a .inv .4) (c .before .before .before .before .before .before .before .before .before .before .before .before .if1 .taken) in
     let w = c .before .before .before .before .before .before .before .before .before .before .before .before .before .before .before .before .before .before .before .before .before .before .before .before .before .before .before .pre .0 .0 in
-    omega (arith, room _ _ _ (a .inv .4) (c .before .before .before .before .before .before .before .before .before .before .before .before .if1 .taken) _ (now .2 .few-roads), few-entries (c .before .before .before .before .before .before .before .before .before .before .before .before .before .before .before .before .before .before .before .before .before .before .before .before .before .before .before .args .s .now) (c .before .before .before .before .before .before .before .before .before .before .before .before .before .before .before .before .before .before .before .before .before .before .before .before .before .before .before .args .c) (c .before .before .before .before .before .before .before .before .before .before .before .before .before .before .before .before .before .before .before .before .before .before .before .before .before .before .before .args .slots) (w .sound .small .p) (w .sound .small .n))
+    omega (arith, room _ _ _ _ (a .inv .4) (c .before .before .before .before .before .before .before .before .before .before .before .before .if1 .taken) _ (now .2 .few-roads), few-entries (c .before .before .before .before .before .before .before .before .before .before .before .before .before .before .before .before .before .before .before .before .before .before .before .before .before .before .before .args .s .now) (c .before .before .before .before .before .before .before .before .before .before .before .before .before .before .before .before .before .before .before .before .before .before .before .before .before .before .before .args .c) (c .before .before .before .before .before .before .before .before .before .before .before .before .before .before .before .before .before .before .before .before .before .before .before .before .before .before .before .args .slots) (w .sound .small .p) (w .sound .small .n))
 
 sub-walk-leg : tie.Need-sub-walk-leg Inv-loop μ-loop
 sub-walk-leg c = let a = c .before .before .before .before .before .before .before .before .before .before .before .before .before .before .loop in
-    let now = stands-now _ _ _ (a .inv .4) (c .before .before .before .before .before .before .before .before .before .before .before .before .if1 .taken) in
-    omega (arith, room _ _ _ (a .inv .4) (c .before .before .before .before .before .before .before .before .before .before .before .before .if1 .taken) _ (now .2 .few-roads), a .inv .3, c .before .before .before .before .before .before .before .before .before .before .before .before .before .before .before .before .before .before .before .before .before .before .before .before .before .before .before .pre .1 .0 .2)
+    let now = stands-now _ _ _ _ (a .inv .4) (c .before .before .before .before .before .before .before .before .before .before .before .before .if1 .taken) in
+    omega (arith, room _ _ _ _ (a .inv .4) (c .before .before .before .before .before .before .before .before .before .before .before .before .if1 .taken) _ (now .2 .few-roads), a .inv .3, c .before .before .before .before .before .before .before .before .before .before .before .before .before .before .before .before .before .before .before .before .before .before .before .before .before .before .before .pre .1 .0 .2)
 
 part-walk-leg-start : tie.Need-part-walk-leg-start Inv-loop μ-loop
 part-walk-leg-start c = let a = c .before .before .before .before .before .before .before .before .before .before .before .before .before .before .loop in
-    let now = stands-now _ _ _ (a .inv .4) (c .before .before .before .before .before .before .before .before .before .before .before .before .if1 .taken) in
-    omega (arith, room _ _ _ (a .inv .4) (c .before .before .before .before .before .before .before .before .before .before .before .before .if1 .taken) _ (now .2 .few-roads), a .inv .3, c .before .before .before .before .before .before .before .before .before .before .before .before .before .before .before .before .before .before .before .before .before .before .before .before .before .before .before .pre .1 .0 .2)
+    let now = stands-now _ _ _ _ (a .inv .4) (c .before .before .before .before .before .before .before .before .before .before .before .before .if1 .taken) in
+    omega (arith, room _ _ _ _ (a .inv .4) (c .before .before .before .before .before .before .before .before .before .before .before .before .if1 .taken) _ (now .2 .few-roads), a .inv .3, c .before .before .before .before .before .before .before .before .before .before .before .before .before .before .before .before .before .before .before .before .before .before .before .before .before .before .before .pre .1 .0 .2)
 
 part-walk-leg-end : tie.Need-part-walk-leg-end Inv-loop μ-loop
 part-walk-leg-end c = let a = c .before .before .before .before .before .before .before .before .before .before .before .before .before .before .loop in
-    let now = stands-now _ _ _ (a .inv .4) (c .before .before .before .before .before .before .before .before .before .before .before .before .if1 .taken) in
-    omega (arith, room _ _ _ (a .inv .4) (c .before .before .before .before .before .before .before .before .before .before .before .before .if1 .taken) _ (now .2 .few-roads), a .inv .3, c .before .before .before .before .before .before .before .before .before .before .before .before .before .before .before .before .before .before .before .before .before .before .before .before .before .before .before .pre .1 .0 .2)
+    let now = stands-now _ _ _ _ (a .inv .4) (c .before .before .before .before .before .before .before .before .before .before .before .before .if1 .taken) in
+    omega (arith, room _ _ _ _ (a .inv .4) (c .before .before .before .before .before .before .before .before .before .before .before .before .if1 .taken) _ (now .2 .few-roads), a .inv .3, c .before .before .before .before .before .before .before .before .before .before .before .before .before .before .before .before .before .before .before .before .before .before .before .before .before .before .before .pre .1 .0 .2)
 
 walk-leg-requires : tie.Need-walk-leg-requires Inv-loop μ-loop
 walk-leg-requires c κs = let a = c .before .before .before .before .before .before .before .before .before .before .before .before .before .before .before .loop in
     let p = c .before .before .before .before .before .before .before .before .before .before .before .before .before .before .before .before .before .before .before .before .before .before .before .before .before .before .before .before .pre in
-    let now = stands-now _ _ _ (a .inv .4) (c .before .before .before .before .before .before .before .before .before .before .before .before .before .if1 .taken) in
-    let roads = room _ _ _ (a .inv .4) (c .before .before .before .before .before .before .before .before .before .before .before .before .before .if1 .taken) _ (now .2 .few-roads) in
-    let covers = room _ _ _ (a .inv .4) (c .before .before .before .before .before .before .before .before .before .before .before .before .before .if1 .taken) _ (now .2 .few-coverages) in
+    let now = stands-now _ _ _ _ (a .inv .4) (c .before .before .before .before .before .before .before .before .before .before .before .before .before .if1 .taken) in
+    let roads = room _ _ _ _ (a .inv .4) (c .before .before .before .before .before .before .before .before .before .before .before .before .before .if1 .taken) _ (now .2 .few-roads) in
+    let covers = room _ _ _ _ (a .inv .4) (c .before .before .before .before .before .before .before .before .before .before .before .before .before .if1 .taken) _ (now .2 .few-coverages) in
     let kept = a .inv .0 in
     let long = tail-long (a .ids) (a .run .course .written) (omega (arith, roads, a .inv .3, p .1 .0 .2)) in (
       (p .0 .0, p .0 .1, p .0 .2, c .before .before .before .before .before .before .before .before .before .before .before .before .before .if1 .taken, now .2 .below, a .inv .5 (c .before .before .before .before .before .before .before .before .before .before .before .before .before .if1 .taken), c .before .before .before .before .before .before .before .before .before .find-candidates2 .ensures),
@@ -84,12 +84,12 @@ walk-leg-requires c κs = let a = c .before .before .before .before .before .bef
 advance-requires : tie.Need-advance-requires Inv-loop μ-loop
 advance-requires c κs = let a = c .before .before .before .before .before .before .before .before .before .before .before .before .before .before .before .before .before .before .before .before .before .before .before .before .before .before .before .before .before .before .before .before .before .before .loop in
     let w = c .before .before .before .before .before .before .before .before .before .before .before .before .before .before .before .before .before .before .before .before .before .before .before .before .before .before .before .before .before .before .before .before .before .before .before .before .before .before .before .before .before .before .before .before .before .before .before .pre .0 .0 in
-    let now = stands-now _ _ _ (a .inv .4) (c .before .before .before .before .before .before .before .before .before .before .before .before .before .before .before .before .before .before .before .before .before .before .before .before .before .before .before .before .before .before .before .before .if1 .taken) in
+    let now = stands-now _ _ _ _ (a .inv .4) (c .before .before .before .before .before .before .before .before .before .before .before .before .before .before .before .before .before .before .before .before .before .before .before .before .before .before .before .before .before .before .before .before .if1 .taken) in
     let few = few-entries (c .before .before .before .before .before .before .before .before .before .before .before .before .before .before .before .before .before .before .before .before .before .before .before .before .before .before .before .before .before .before .before .before .before .before .before .before .before .before .before .before .before .before .before .before .before .before .before .args .s .now) (c .before .before .before .before .before .before .before .before .before .before .before .before .before .before .before .before .before .before .before .before .before .before .before .before .before .before .before .before .before .before .before .before .before .before .before .before .before .before .before .before .before .before .before .before .before .before .before .args .c) (c .before .before .before .before .before .before .before .before .before .before .before .before .before .before .before .before .before .before .before .before .before .before .before .before .before .before .before .before .before .before .before .before .before .before .before .before .before .before .before .before .before .before .before .before .before .before .before .args .slots) (w .sound .small .p) (w .sound .small .n) in
-    (omega (arith, a .inv .4 .in-range, w .sound .small .p), omega (arith, room _ _ _ (a .inv .4) (c .before .before .before .before .before .before .before .before .before .before .before .before .before .before .before .before .before .before .before .before .before .before .before .before .before .before .before .before .before .before .before .before .if1 .taken) _ (now .2 .few-roads), few), short-leg _ _ (c .before .before .before .before .before .before .before .before .before .before .before .before .before .before .before .before .before .before .before .before .before .before .before .before .before .before .before .before .before .before .before .before .before .before .before .before .before .before .before .before .before .before .before .before .before .before .before .args .slots) (w .sound .small .n) _ _ _ _ _ _ _ _ _ (c .before .before .before .before .before .before .before .before .before .before .before .before .before .before .before .before .before .before .walk-leg .result) (c .before .before .before .before .before .before .before .before .before .before .before .before .before .before .before .before .before .before .walk-leg .ensures))
+    (omega (arith, a .inv .4 .in-range, w .sound .small .p), omega (arith, room _ _ _ _ (a .inv .4) (c .before .before .before .before .before .before .before .before .before .before .before .before .before .before .before .before .before .before .before .before .before .before .before .before .before .before .before .before .before .before .before .before .if1 .taken) _ (now .2 .few-roads), few), short-leg _ _ (c .before .before .before .before .before .before .before .before .before .before .before .before .before .before .before .before .before .before .before .before .before .before .before .before .before .before .before .before .before .before .before .before .before .before .before .before .before .before .before .before .before .before .before .before .before .before .before .args .slots) (w .sound .small .n) _ _ _ _ _ _ _ _ _ (c .before .before .before .before .before .before .before .before .before .before .before .before .before .before .before .before .before .before .walk-leg .result) (c .before .before .before .before .before .before .before .before .before .before .before .before .before .before .before .before .before .before .walk-leg .ensures))
 
 loop-less : tie.Need-loop-less Inv-loop μ-loop
-loop-less c = rw (c .advance .ensures) (nearer _ _ _ (c .before .before .before .before .before .before .before .before .before .before .before .before .before .before .before .before .before .before .before .before .before .before .before .before .before .before .before .before .before .before .before .before .before .before .before .loop .inv .4) (c .before .before .before .before .before .before .before .before .before .before .before .before .before .before .before .before .before .before .before .before .before .before .before .before .before .before .before .before .before .before .before .before .before .if1 .taken) (c .before .before .before .before .before .before .before .before .before .before .before .before .before .before .before .before .before .before .before .walk-leg .result))
+loop-less c = rw (c .advance .ensures) (nearer _ _ _ _ (c .before .before .before .before .before .before .before .before .before .before .before .before .before .before .before .before .before .before .before .before .before .before .before .before .before .before .before .before .before .before .before .before .before .before .before .loop .inv .4) (c .before .before .before .before .before .before .before .before .before .before .before .before .before .before .before .before .before .before .before .before .before .before .before .before .before .before .before .before .before .before .before .before .before .if1 .taken) (c .before .before .before .before .before .before .before .before .before .before .before .before .before .before .before .before .before .before .before .walk-leg .result))
 
 loop-again : tie.Need-loop-again Inv-loop μ-loop
 loop-again c = let a = c .before .before .before .before .before .before .before .before .before .before .before .before .before .before .before .before .before .before .before .before .before .before .before .before .before .before .before .before .before .before .before .before .before .before .before .loop in
@@ -97,8 +97,8 @@ loop-again c = let a = c .before .before .before .before .before .before .before
     let k = c .before .before .before .before .before .before .before .before .before .before .before .before .before .before .before .before .before .before .before .walk-leg .kept .1 .1 .1 .1 .1 .1 .1 .1 .1 .1 in
     let l = c .before .before .before .before .before .before .before .before .before .before .before .before .before .before .before .before .before .before .before .walk-leg .last .1 .1 .1 .1 .1 .1 .1 .1 .1 .1 in
     let at = a .run .course .written in
-    let now = stands-now _ _ _ (a .inv .4) (c .before .before .before .before .before .before .before .before .before .before .before .before .before .before .before .before .before .before .before .before .before .before .before .before .before .before .before .before .before .before .before .before .before .if1 .taken) in
-    let roads = room _ _ _ (a .inv .4) (c .before .before .before .before .before .before .before .before .before .before .before .before .before .before .before .before .before .before .before .before .before .before .before .before .before .before .before .before .before .before .before .before .before .if1 .taken) _ (now .2 .few-roads) in
+    let now = stands-now _ _ _ _ (a .inv .4) (c .before .before .before .before .before .before .before .before .before .before .before .before .before .before .before .before .before .before .before .before .before .before .before .before .before .before .before .before .before .before .before .before .before .if1 .taken) in
+    let roads = room _ _ _ _ (a .inv .4) (c .before .before .before .before .before .before .before .before .before .before .before .before .before .before .before .before .before .before .before .before .before .before .before .before .before .before .before .before .before .before .before .before .before .if1 .taken) _ (now .2 .few-roads) in
     let fits : at ≤ length (a .ids) = omega (arith, roads, a .inv .3, p .1 .0 .2) in
     let long = k .1 .1 .1 .1 .1 .1 .1 .1 .0 ∙ tail-long (a .ids) at fits in
     let out = l .1 .1 .1 .1 .1 .1 .1 .1 .0 in (
@@ -110,8 +110,8 @@ loop-again c = let a = c .before .before .before .before .before .before .before
       k .1 .1 .1 .1 .1 .1 .0 ∙ a .inv .1,
       k .1 .1 .1 .1 .1 .1 .1 .0 ∙ a .inv .2,
       c .before .before .ids .given .1 ∙ a .inv .3,
-      rw (c .advance .ensures) (going-on _ _ _ (a .inv .4) (c .before .before .before .before .before .before .before .before .before .before .before .before .before .before .before .before .before .before .before .before .before .before .before .before .before .before .before .before .before .before .before .before .before .if1 .taken) _ out _ _ (λ m h. tail-split (a .ids) out _ at m fits (omega (arith, roads, a .inv .3, p .1 .0 .2, long))) (c .before .before .before .before .before .before .before .before .before .before .before .before .before .before .before .before .before .before .before .walk-leg .result) (rw (c .before .before .before .before .before .before .before .before .before .before .before .before .before .before .before .before .before .before .before .before .before .before .before .before .before .before .before .before .before .before .before .last-written .ensures) at (c .before .before .before .before .before .before .before .before .before .before .before .before .before .before .before .before .before .before .before .walk-leg .ensures))),
-      (rw (c .advance .ensures) (λ h. rw (next-one _ _ _ (a .inv .4) (c .before .before .before .before .before .before .before .before .before .before .before .before .before .before .before .before .before .before .before .before .before .before .before .before .before .before .before .before .before .before .before .before .before .if1 .taken) (c .before .before .before .before .before .before .before .before .before .before .before .before .before .before .before .before .before .before .before .walk-leg .result) h) (c .before .before .before .before .before .before .before .before .before .before .before .before .before .before .before .before .before .before .before .before .before .before .before .before .before .before .before .before .before .find-candidates2 .ensures))),
+      rw (c .advance .ensures) (going-on _ _ _ _ (a .inv .4) (c .before .before .before .before .before .before .before .before .before .before .before .before .before .before .before .before .before .before .before .before .before .before .before .before .before .before .before .before .before .before .before .before .before .if1 .taken) _ out _ _ (λ m h. tail-split (a .ids) out _ at m fits (omega (arith, roads, a .inv .3, p .1 .0 .2, long))) (c .before .before .before .before .before .before .before .before .before .before .before .before .before .before .before .before .before .before .before .walk-leg .result) (rw (c .before .before .before .before .before .before .before .before .before .before .before .before .before .before .before .before .before .before .before .before .before .before .before .before .before .before .before .before .before .before .before .last-written .ensures) at (c .before .before .before .before .before .before .before .before .before .before .before .before .before .before .before .before .before .before .before .walk-leg .ensures))),
+      (rw (c .advance .ensures) (λ h. rw (next-one _ _ _ _ (a .inv .4) (c .before .before .before .before .before .before .before .before .before .before .before .before .before .before .before .before .before .before .before .before .before .before .before .before .before .before .before .before .before .before .before .before .before .if1 .taken) (c .before .before .before .before .before .before .before .before .before .before .before .before .before .before .before .before .before .before .before .walk-leg .result) h) (c .before .before .before .before .before .before .before .before .before .before .before .before .before .before .before .before .before .before .before .before .before .before .before .before .before .before .before .before .before .find-candidates2 .ensures))),
     )
 
 same-length : tie.Need-same-length Inv-loop μ-loop
@@ -142,10 +142,10 @@ same-length-9 : tie.Need-same-length-9 Inv-loop μ-loop
 same-length-9 c = c .before .before .loop .inv .3
 
 returns : tie.Need-returns Inv-loop μ-loop
-returns c = going-end _ _ _ (c .before .before .loop .inv .4) (omega (arith, c .if1 .left))
+returns c = going-end _ _ _ _ (c .before .before .loop .inv .4) (omega (arith, c .if1 .left))
 
-pub decode-line-spec : {M : Type 1} → statement M
-decode-line-spec =
+pub walk-legs-spec : {M : Type 1} → statement M
+walk-legs-spec =
     tie.close
     (tie.spec
     Inv-loop
