@@ -20,18 +20,15 @@ use Rattle.model.specs.Decode.{query-of, seek-of}
 use Rattle.rules.specs.declared.Best.{Best}
 use Rattle.plans.specs.declared.Ask.{Ask}
 use Rattle.plans.specs.declared.Ask.the-variants as A
-use Rattle.plans.specs.declared.Middle.{Middle}
-use Rattle.plans.specs.declared.Middle.the-variants as M
 use Rattle.plans.specs.declared.State.{State}
-use Rattle.plans.specs.Turns.{by-ask, found-of, count-of, renewed}
+use Rattle.plans.specs.Turns.{by-ask, count-of, renewed}
 use Rattle.search.specs.declared.Search.{Search}
 use Rattle.search.specs.declared.Search.the-variants as S
 use Rattle.search.specs.Ask.{asked}
-use Rattle.search.specs.Answers.{answer}
-use Rattle.search.specs.Answers as answers
+use Rattle.search.specs.Answers.{answer, Holds}
 use Rattle.legs.specs.declared.middle.Way.{Way}
 use Rattle.legs.specs.declared.middle.Way.the-variants as W
-use Rattle.legs.specs.Found.{seek-at, by-way, Roads, Spans, Brief, Fits}
+use Rattle.legs.specs.Found.{seek-at, by-way, Roads, Brief, Fits}
 
 -- ---- by what is asked for
 
@@ -39,63 +36,30 @@ module _ (start goal : ℕ) (a : Ask) where
   abbrev pub Between : Way → Type 0
   Between r = (roads : ℕ → Road) (area : List ℕ) (search : Float → Found) → by-way roads area search r ≡ by-ask (λ bound. cond (eqb start goal) (found f0 []) (search bound)) a
 
-  pub nothing-asked : a ≡ A.No → Between (W.Known M.Nothing)
-  unfolding by-way by-ask found-of
+  pub nothing-asked : a ≡ A.No → Between (W.Known S.Nothing)
+  unfolding by-way by-ask answer
   nothing-asked e roads area search = rw e
 
   module _ (bound : Float) (e : a ≡ A.Within bound) where
-    pub already-there : start ≡ goal → Between (W.Known (M.Found f0 0))
-    unfolding by-way by-ask found-of
+    pub already-there : start ≡ goal → Between (W.Known (S.Found f0 0))
+    unfolding by-way by-ask answer
     already-there h roads area search = rw (e, eq-eqb start goal h)
 
     pub search-asked : (start ≡ goal → ⊥) → Between (W.Within bound)
     unfolding by-way by-ask
     search-asked h roads area search = rw (e, ne-eqb start goal h)
 
-pub brief-nothing : Brief (W.Known M.Nothing)
+pub brief-nothing : Brief (W.Known S.Nothing)
 unfolding Brief count-of
 brief-nothing = refl
 
-pub brief-there : Brief (W.Known (M.Found f0 0))
+pub brief-there : Brief (W.Known (S.Found f0 0))
 unfolding Brief count-of
 brief-there = refl
 
 pub brief-within : (bound : Float) → Brief (W.Within bound)
 unfolding Brief
 brief-within bound = tt
-
--- ---- by what a search found
-
-module _ (x : Search) where
-  abbrev pub Means : Middle → Type 0
-  Means m = (roads : ℕ → Road) (area : List ℕ) → found-of roads m area ≡ answer roads x area
-
-  abbrev pub Carries : Middle → Type 0
-  Carries m = (n e : ℕ) (area : List ℕ) → answers.Holds n e x area → Spans n e m area
-
-  pub found-means : (cost : Float) (k : ℕ) → x ≡ S.Found cost k → Means (M.Found cost k)
-  unfolding found-of
-  found-means cost k e roads area = rw e
-
-  pub found-carries : (cost : Float) (k : ℕ) → x ≡ S.Found cost k → Carries (M.Found cost k)
-  unfolding Spans
-  found-carries cost k e n b area h = rw e at h
-
-  pub nothing-means : x ≡ S.Nothing → Means M.Nothing
-  unfolding found-of
-  nothing-means e roads area = rw e
-
-  pub nothing-carries : Carries M.Nothing
-  unfolding Spans
-  nothing-carries n b area h = tt
-
-  pub full-means : x ≡ S.Full → Means M.Full
-  unfolding found-of
-  full-means e roads area = rw e
-
-  pub full-carries : Carries M.Full
-  unfolding Spans
-  full-carries n b area h = tt
 
 -- ---- the search of a leg
 
@@ -107,35 +71,35 @@ module _ (t : Sheet) (slots : ℕ) (b : Limits) (start goal : ℕ) (a : Ask) (w 
   unfolding asked query-of view seek-at seek-of
   leg-seek = refl
 
-  module _ (roads : ℕ → Road) (m : Middle) (area : List ℕ) where
-    pub known-found : w ≡ W.Known m → found-of roads m area ≡ by-ask (seek-at t slots b start goal) a
+  module _ (roads : ℕ → Road) (m : Search) (area : List ℕ) where
+    pub known-found : w ≡ W.Known m → answer roads m area ≡ by-ask (seek-at t slots b start goal) a
     unfolding by-way
     known-found e = (rw e at (between roads area seek)) ∙ leg-seek
 
-    pub search-found : (bound : Float) (x : Search) → w ≡ W.Within bound → found-of roads m area ≡ answer roads x area
-        → answer roads x area ≡ bounded-astar slots (asked t record { start = start; goal = goal; bound = bound; constraints = b .constraints }) start
-        → found-of roads m area ≡ by-ask (seek-at t slots b start goal) a
+    pub search-found : (bound : Float) → w ≡ W.Within bound
+        → answer roads m area ≡ bounded-astar slots (asked t record { start = start; goal = goal; bound = bound; constraints = b .constraints }) start
+        → answer roads m area ≡ by-ask (seek-at t slots b start goal) a
     unfolding by-way
-    search-found bound x e means is-found = means ∙ is-found ∙ (rw e at (between roads area seek)) ∙ leg-seek
+    search-found bound e is-found = is-found ∙ (rw e at (between roads area seek)) ∙ leg-seek
 
-pub brief-known : (w : Way) (m : Middle) → w ≡ W.Known m → Brief w → count-of m ≡ 0
+pub brief-known : (w : Way) (m : Search) → w ≡ W.Known m → Brief w → count-of m ≡ 0
 unfolding Brief
 brief-known w m e h = rw e at h
 
 -- known without a search
-pub known-spans : (m : Middle) → count-of m ≡ 0 → (n e : ℕ) (area : List ℕ) → 0 < n → Spans n e m area
-unfolding Spans count-of
-known-spans (M.Found cost k) z n e area h = (omega arith, λ j g. absurd (omega arith))
-known-spans M.Nothing z n e area h = tt
-known-spans M.Full z n e area h = tt
+pub known-holds : (m : Search) → count-of m ≡ 0 → (n e : ℕ) (area : List ℕ) → 0 < n → Holds n e m area
+unfolding Holds count-of
+known-holds (S.Found cost k) z n e area h = (omega arith, λ j g. absurd (omega arith))
+known-holds S.Nothing z n e area h = tt
+known-holds S.Full z n e area h = tt
 
 -- ---- the roads that are kept
 
-pub spans-roads : (n e : ℕ) (m : Middle) (area : List ℕ) → 0 < n → Spans n e m area → Roads n e (count-of m) area
-unfolding Spans count-of
-spans-roads n e (M.Found cost k) area h s = s
-spans-roads n e M.Nothing area h s = (h, λ j g. absurd (omega arith))
-spans-roads n e M.Full area h s = (h, λ j g. absurd (omega arith))
+pub holds-roads : (n e : ℕ) (m : Search) (area : List ℕ) → 0 < n → Holds n e m area → Roads n e (count-of m) area
+unfolding Holds count-of
+holds-roads n e (S.Found cost k) area h s = s
+holds-roads n e S.Nothing area h s = (h, λ j g. absurd (omega arith))
+holds-roads n e S.Full area h s = (h, λ j g. absurd (omega arith))
 
 -- the best route's middle, after a pair
 module _ (n e : ℕ) (best : Best) (r : State) (m : ℕ) (new old : List ℕ) (few : r .taken ≤ m) (fit : m ≤ length new) (found : Roads n e m new) (kept : Fits n e best old) where

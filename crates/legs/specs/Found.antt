@@ -16,13 +16,11 @@ use Rattle.model.specs.Decode.{seek-of}
 use Rattle.bounds.specs.Amounts.{Amount}
 use Rattle.rules.specs.declared.Best.{Best}
 use Rattle.rules.specs.Code.{path-of, best-of}
-use Rattle.plans.specs.declared.Middle.{Middle}
-use Rattle.plans.specs.declared.Middle.the-variants as M
 use Rattle.plans.specs.declared.Phase.{Phase}
 use Rattle.plans.specs.declared.Phase.the-variants as H
 use Rattle.plans.specs.declared.State.{State}
-use Rattle.plans.specs.Turns.{found-of, count-of, turn-of}
-use Rattle.search.specs.Answers.{Numbers}
+use Rattle.plans.specs.Turns.{count-of, turn-of}
+use Rattle.search.specs.Answers.{answer, Numbers}
 use Rattle.legs.specs.declared.Sought.{Sought}
 use Rattle.legs.specs.declared.Sought.the-variants as S
 use Rattle.legs.specs.declared.middle.Way.{Way}
@@ -46,7 +44,7 @@ Priced b = Amount (b .constraints .«slip_road_cost_penalty») × Amount (b .con
 
 -- what lies between two roads: known without a search, or found by one within a bound
 unfoldable pub by-way : (ℕ → Road) → List ℕ → (Float → Found) → Way → Found
-by-way roads area seek (W.Known m) = found-of roads m area
+by-way roads area seek (W.Known m) = answer roads m area
 by-way roads area seek (W.Within bound) = seek bound
 
 -- the leg's end after its pairs: the best so far, or the heap is used up
@@ -68,12 +66,6 @@ place-after H.Full t n = n
 -- k roads, fewer than the n nodes, by their numbers below e
 abbrev pub Roads : ℕ → ℕ → ℕ → List ℕ → Type 0
 Roads n e k area = (k < n) × Numbers e k area
-
--- the roads between two roads
-unfoldable pub Spans : ℕ → ℕ → Middle → List ℕ → Type 0
-Spans n e (M.Found cost k) area = Roads n e k area
-Spans n e M.Nothing area = Unit {0}
-Spans n e M.Full area = Unit {0}
 
 -- what is known without a search has no roads
 unfoldable pub Brief : Way → Type 0

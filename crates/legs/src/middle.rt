@@ -2,7 +2,6 @@
 use model::Counts;
 use model::Limits;
 use plans::Ask;
-use plans::Middle;
 use search::Search;
 ghost use mathlib.Core.Path.{_≡_};
 ghost use mathlib.Core.Bool.{cond};
@@ -16,15 +15,14 @@ ghost use Rattle.model.specs.Numbers.{f0};
 ghost use Rattle.model.specs.Judge.{WellFormed};
 ghost use Rattle.model.specs.Sheet.{sheet-of, road-at};
 ghost use Rattle.model.specs.Search.{Found, found};
-ghost use Rattle.plans.specs.Turns.{by-ask, found-of, renewed};
+ghost use Rattle.plans.specs.Turns.{by-ask, renewed};
 ghost use Rattle.search.specs.Areas.{columns, Sized};
-ghost use Rattle.search.specs.Answers.{answer};
-ghost use Rattle.search.specs.Answers as answers;
-ghost use Rattle.legs.specs.Found.{seek-at, by-way, Priced, Spans, Brief};
+ghost use Rattle.search.specs.Answers.{answer, Holds};
+ghost use Rattle.legs.specs.Found.{seek-at, by-way, Priced, Brief};
 
 // What is known without a search, or the bound of a search.
 pub enum Way {
-    Known(Middle),
+    Known(Search),
     Within(f64),
 }
 
@@ -34,24 +32,12 @@ fn way_between(a: Ask, start: usize, goal: usize) -> Way
     ensures brief { λ r. ⌜ Brief r ⌝ }
 {
     let Ask::Within(bound) = a else {
-        return Way::Known(Middle::Nothing);
+        return Way::Known(Search::Nothing);
     };
     if start == goal {
-        return Way::Known(Middle::Found(0.0, 0));
+        return Way::Known(Search::Found(0.0, 0));
     }
     Way::Within(bound)
-}
-
-// What a search found.
-fn middle_of(x: Search) -> Middle
-    ensures means { λ m. ⌜ ((roads : ℕ → Road) (area : List ℕ) → found-of roads m area ≡ answer roads x area) ⌝ }
-    ensures spans { λ m. ⌜ ((n e : ℕ) (area : List ℕ) → answers.Holds n e x area → Spans n e m area) ⌝ }
-{
-    match x {
-        Search::Found(cost, n) => Middle::Found(cost, n),
-        Search::Nothing => Middle::Nothing,
-        Search::Full => Middle::Full,
-    }
 }
 
 // What lies between the nodes `start` and `goal`, where a pair asks for it. Its roads are in the front of `route`.
@@ -68,11 +54,11 @@ pub fn middle(
     route: &mut [usize],
     entries: &mut [f64],
     links: &mut [usize],
-) -> Middle
+) -> Search
     requires { ⌜ WellFormed (now s) c × Priced b × (start < c .n) × (goal < c .n) ⌝ }
     requires { ⌜ (0 < slots) × (c .n ≤ length (now route)) × Sized (c .n) slots (columns (c .n) slots (now labels) (now «came_from») (now entries) (now links) 0 0) ⌝ }
-    ensures means { λ m. ⌜ found-of (road-at (sheet-of (now (s .entry)) c)) m (now (route .exit)) ≡ by-ask (seek-at (sheet-of (now (s .entry)) c) slots b start goal) a ⌝ }
-    ensures spans { λ m. ⌜ Spans (c .n) (c .e) m (now (route .exit)) ⌝ }
+    ensures means { λ m. ⌜ answer (road-at (sheet-of (now (s .entry)) c)) m (now (route .exit)) ≡ by-ask (seek-at (sheet-of (now (s .entry)) c) slots b start goal) a ⌝ }
+    ensures holds { λ m. ⌜ Holds (c .n) (c .e) m (now (route .exit)) ⌝ }
 {
     let known = way_between(a, start, goal);
     match known {
@@ -96,8 +82,7 @@ pub fn middle(
                 entries,
                 links,
             );
-            let end = found.search;
-            middle_of(end)
+            found.search
         }
     }
 }

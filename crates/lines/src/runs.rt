@@ -47,16 +47,13 @@ pub fn walk_legs(
         let last = path::last_written(ids, at);
         let to = run.next + 1;
         let ends = find::find_candidates(s, c, set, to);
-        let end = leg::walk_leg(
+        let b = leg::leg_limits(s, c, set, run.next);
+        let found = legs::find_best_path(
             s,
             c,
-            set,
+            b,
             starts,
             ends,
-            run.next,
-            summed,
-            last,
-            n0,
             slots,
             labels,
             came_from,
@@ -64,6 +61,16 @@ pub fn walk_legs(
             best_route,
             entries,
             links,
+        );
+        let end = leg::leave(
+            s,
+            c,
+            summed,
+            b.dnp,
+            last,
+            found,
+            best_route,
+            n0,
             covered,
             coverage,
             &mut ids[at..],

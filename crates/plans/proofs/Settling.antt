@@ -13,13 +13,14 @@ use Rattle.model.specs.declared.Limits.{Limits}
 use Rattle.model.specs.Legs.{Pair, over, improve, reached, settled, goes-on}
 use Rattle.rules.specs.declared.Best.{Best}
 use Rattle.rules.specs.Code.{best-of}
+use Rattle.search.specs.declared.Search.{Search}
+use Rattle.search.specs.declared.Search.the-variants as M
+use Rattle.search.specs.Answers.{answer}
 use Rattle.plans.specs.declared.Plan.{Plan}
 use Rattle.plans.specs.declared.Plan.the-variants as P
-use Rattle.plans.specs.declared.Middle.{Middle}
-use Rattle.plans.specs.declared.Middle.the-variants as M
 use Rattle.plans.specs.declared.Phase.the-variants as H
 use Rattle.plans.specs.declared.State.{State}
-use Rattle.plans.specs.Turns.{asked-of, found-of, count-of, turn-of, renewed, Comes}
+use Rattle.plans.specs.Turns.{asked-of, count-of, turn-of, renewed, Comes}
 
 -- the roads that are taken stand in front
 pub taken-front : (n : ℕ) (new old : List ℕ) → n ≤ length new → take n (renewed n new old) ≡ take n new
@@ -43,22 +44,22 @@ module _ (best next : Best) (t : Bool)
   best-kept w = record { few = omega arith; middle = inl (refl, refl); means = λ roads old new h. ap goes-on (rw w at (e roads old (renewed n new old))) }
 
 -- by what lies between the roads
-module _ (b : Limits) (q : Pair) (best : Best) (m : Middle) where
+module _ (b : Limits) (q : Pair) (best : Best) (m : Search) where
   abbrev pub Reached : State → Type 0
-  Reached r = Comes best r (count-of m) (λ roads old new. reached b q (best-of roads best old) (found-of roads m new))
+  Reached r = Comes best r (count-of m) (λ roads old new. reached b q (best-of roads best old) (answer roads m new))
 
   pub by-none : m ≡ M.Nothing → Reached (record { phase = H.On; best = best; taken = 0 })
-  unfolding turn-of found-of reached
+  unfolding turn-of answer reached
   by-none f = record { few = omega arith; middle = inl (refl, refl); means = λ roads old new h. rw f }
 
   pub by-full : m ≡ M.Full → Reached (record { phase = H.Full; best = best; taken = 0 })
-  unfolding turn-of found-of reached
+  unfolding turn-of answer reached
   by-full f = record { few = omega arith; middle = inl (refl, refl); means = λ roads old new h. rw f }
 
   pub by-found : (cost : Float) (n : ℕ) → m ≡ M.Found cost n
       → (next : Best) → next .route .count ≡ n → ((roads : ℕ → Road) (area : List ℕ) → best-of roads next area ≡ over b q cost (map roads (take n area)))
       → (r : State) → Better best next r → Reached r
-  unfolding found-of reached count-of
+  unfolding answer reached count-of
   by-found cost n f next counts w r g = record {
     few = rw f (let k = g .few in omega arith);
     middle = g .middle;
@@ -73,7 +74,7 @@ module _ (b : Limits) (q : Pair) (best : Best) (m : Middle) where
   -- by the plan
   module _ (p : Plan) where
     abbrev pub Settled : State → Type 0
-    Settled r = Comes best r (count-of m) (λ roads old new. settled b q (best-of roads best old) (asked-of roads p) (found-of roads m new))
+    Settled r = Comes best r (count-of m) (λ roads old new. settled b q (best-of roads best old) (asked-of roads p) (answer roads m new))
 
     pub by-nothing : p ≡ P.Nothing → Settled (record { phase = H.On; best = best; taken = 0 })
     unfolding settled asked-of turn-of

@@ -1,22 +1,22 @@
--- What the code's plans, answers and states stand for. The roads of a search stand in a lent area, by their numbers.
+-- What the code's plans and states stand for. The roads of a search stand in a lent area, by their numbers.
 use Prim.Native.Nat.{ℕ, _≤_}
 use mathlib.Core.Path.{_≡_}
 use mathlib.Core.Logic.{_⊎_}
 use mathlib.Core.Option.{Option}
-use mathlib.Core.List.{List, [], _++_, map}
+use mathlib.Core.List.{List, [], _++_}
 use lib.ListN.{length, take, drop}
 use lib.Ieee.{Float}
 use Rattle.model.specs.declared.Road.{Road}
-use Rattle.model.specs.Search.{Found, found, none-found, full}
+use Rattle.model.specs.Search.{Found, none-found}
 use Rattle.model.specs.Legs.{Scored, Asked, nothing, alone, across, Turn, ends, goes-on, heap-full}
 use Rattle.rules.specs.declared.Best.{Best}
 use Rattle.rules.specs.Code.{best-of}
+use Rattle.search.specs.declared.Search.{Search}
+use Rattle.search.specs.declared.Search.the-variants as S
 use Rattle.plans.specs.declared.Plan.{Plan}
 use Rattle.plans.specs.declared.Plan.the-variants as P
 use Rattle.plans.specs.declared.Ask.{Ask}
 use Rattle.plans.specs.declared.Ask.the-variants as A
-use Rattle.plans.specs.declared.Middle.{Middle}
-use Rattle.plans.specs.declared.Middle.the-variants as M
 use Rattle.plans.specs.declared.Phase.{Phase}
 use Rattle.plans.specs.declared.Phase.the-variants as H
 use Rattle.plans.specs.declared.State.{State}
@@ -32,16 +32,11 @@ unfoldable pub by-ask : (Float → Found) → Ask → Found
 by-ask seek A.No = none-found
 by-ask seek (A.Within bound) = seek bound
 
-unfoldable pub found-of : (ℕ → Road) → Middle → List ℕ → Found
-found-of roads (M.Found cost n) area = found cost (map roads (take n area))
-found-of roads M.Nothing area = none-found
-found-of roads M.Full area = full
-
--- how many roads lie between
-unfoldable pub count-of : Middle → ℕ
-count-of (M.Found cost n) = n
-count-of M.Nothing = 0
-count-of M.Full = 0
+-- how many roads a search found
+unfoldable pub count-of : Search → ℕ
+count-of (S.Found cost n) = n
+count-of S.Nothing = 0
+count-of S.Full = 0
 
 unfoldable pub turn-of : Phase → Option Scored → Turn
 turn-of H.On b = goes-on b

@@ -16,13 +16,6 @@ pub enum Ask {
     Within(f64),
 }
 
-// What lies between the two roads: the cost of a way and how many roads of the search's area it has, no way, or a full heap.
-pub enum Middle {
-    Found(f64, usize),
-    Nothing,
-    Full,
-}
-
 // Whether the pairs go on, or ended with a full heap.
 pub enum Phase {
     On,

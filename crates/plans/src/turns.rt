@@ -8,9 +8,9 @@ ghost use Rattle.model.specs.declared.Road.{Road};
 ghost use Rattle.model.specs.Numbers.{f0};
 ghost use Rattle.model.specs.Legs.{Pair, Seek, asked, over, improve, middle-of, goes-on, reached, settled};
 ghost use Rattle.rules.specs.Code.{pair-as, best-of};
-ghost use Rattle.plans.specs.Turns.{asked-of, by-ask, found-of, count-of, renewed, Comes};
+ghost use Rattle.search.specs.Answers.{answer};
+ghost use Rattle.plans.specs.Turns.{asked-of, by-ask, count-of, renewed, Comes};
 use crate::Ask;
-use crate::Middle;
 use crate::Phase;
 use crate::Plan;
 use crate::State;
@@ -23,6 +23,7 @@ use rules::Part;
 use rules::Route;
 use rules::lengths;
 use rules::routes;
+use search::Search;
 
 // What a pair asks for.
 pub fn plan(b: Limits, start: Candidate, first: Road, end: Candidate, last: Road) -> Plan
@@ -132,21 +133,21 @@ fn reach(
     end: Candidate,
     last: Road,
     best: Best,
-    m: Middle,
+    m: Search,
 ) -> State
-    ensures { λ r. ⌜ Comes best r (count-of m) (λ roads old new. reached b (pair-as start first end last) (best-of roads best old) (found-of roads m new)) ⌝ }
+    ensures { λ r. ⌜ Comes best r (count-of m) (λ roads old new. reached b (pair-as start first end last) (best-of roads best old) (answer roads m new)) ⌝ }
 {
     match m {
-        Middle::Found(cost, n) => {
+        Search::Found(cost, n) => {
             let next = route_over(b, start, first, end, last, cost, n);
             take_better(best, next)
         }
-        Middle::Nothing => State {
+        Search::Nothing => State {
             phase: Phase::On,
             best,
             taken: 0,
         },
-        Middle::Full => State {
+        Search::Full => State {
             phase: Phase::Full,
             best,
             taken: 0,
@@ -163,9 +164,9 @@ pub fn settle(
     last: Road,
     best: Best,
     p: Plan,
-    m: Middle,
+    m: Search,
 ) -> State
-    ensures { λ r. ⌜ Comes best r (count-of m) (λ roads old new. settled b (pair-as start first end last) (best-of roads best old) (asked-of roads p) (found-of roads m new)) ⌝ }
+    ensures { λ r. ⌜ Comes best r (count-of m) (λ roads old new. settled b (pair-as start first end last) (best-of roads best old) (asked-of roads p) (answer roads m new)) ⌝ }
 {
     match p {
         Plan::Nothing => State {

@@ -86,7 +86,7 @@ Arrives n e roads goal P.Found came = Back n e roads came goal
 Arrives n e roads goal P.Full came = Unit {0}
 
 -- the roads stand in the front of the route, in travel order
-abbrev pub answer : (ℕ → Road) → Search → List ℕ → Found
+unfoldable pub answer : (ℕ → Road) → Search → List ℕ → Found
 answer roads (S.Found cost n) route = found cost (map roads (take n route))
 answer roads S.Nothing route = none-found
 answer roads S.Full route = full
@@ -96,7 +96,7 @@ abbrev pub Numbers : ℕ → ℕ → List ℕ → Type 0
 Numbers e k route = (j : ℕ) → j < k → getD route j 0 < e
 
 -- the roads found are fewer than the n nodes, and the route holds their numbers
-abbrev pub Holds : ℕ → ℕ → Search → List ℕ → Type 0
+unfoldable pub Holds : ℕ → ℕ → Search → List ℕ → Type 0
 Holds n e (S.Found cost k) route = (k < n) × Numbers e k route
 Holds n e S.Nothing route = Unit {0}
 Holds n e S.Full route = Unit {0}

@@ -1,4 +1,4 @@
-use Rattle.legs.proofs.Middles.{known-found, search-found, brief-known, known-spans}
+use Rattle.legs.proofs.Middles.{known-found, search-found, brief-known, known-holds}
 use Rattle.model.specs.Sheet.{sheet-of, road-at}
 use native.Mathlib.Omega.{arith}
 use borrow.Author.Needs.{needs}
@@ -18,15 +18,12 @@ bounded-astar-requires : tie.Need-bounded-astar-requires
 bounded-astar-requires c κs = let p = c .before .before .before .before .before .before .before .before .before .before .before .before .before .before .before .before .pre in
     ((p .0 .0, p .0 .2, p .0 .3, p .0 .1 .0, p .0 .1 .1), p .1)
 
-middle-of-requires : tie.Need-middle-of-requires
-middle-of-requires c κs = search needs
-
 returns : tie.Need-returns
 returns c = let p = c .before .before .before .before .before .before .before .before .before .before .pre in
     let a = c .before .before .before .before .before .before .before .before .before .before .args in
     let w = c .before .before .before .way-between in
     let t = sheet-of (a .s .now) (a .c) in
-    (known-found t (a .slots) (a .b) (a .start) (a .goal) (a .a) (w .result) (w .ensures .0) (road-at t) _ _ (c .before .known .given .1), known-spans _ (brief-known (w .result) _ (c .before .known .given .1) (w .ensures .1)) (a .c .n) (a .c .e) _ (omega (arith, p .0 .2)))
+    (known-found t (a .slots) (a .b) (a .start) (a .goal) (a .a) (w .result) (w .ensures .0) (road-at t) _ _ (c .before .known .given .1), known-holds _ (brief-known (w .result) _ (c .before .known .given .1) (w .ensures .1)) (a .c .n) (a .c .e) _ (omega (arith, p .0 .2)))
 
 same-length : tie.Need-same-length
 same-length c = search needs
@@ -44,13 +41,11 @@ same-length-5 : tie.Need-same-length-5
 same-length-5 c = search needs
 
 returns-2 : tie.Need-returns-2
-returns-2 c = let p = c .before .before .before .before .before .before .before .before .before .before .before .before .before .before .before .before .before .before .before .before .before .before .before .before .before .before .before .before .pre in
-    let a = c .before .before .before .before .before .before .before .before .before .before .before .before .before .before .before .before .before .before .before .before .before .before .before .before .before .before .before .before .args in
-    let w = c .before .before .before .before .before .before .before .before .before .before .before .before .before .before .before .before .before .before .before .before .before .way-between in
-    let x = c .before .before .before .before .before .before .before .before .before .before .before .bounded-astar in
-    let m = c .middle-of in
+returns-2 c = let a = c .before .before .before .before .before .before .before .before .before .before .before .before .before .before .before .before .before .before .before .before .before .before .before .before .before .before .before .args in
+    let w = c .before .before .before .before .before .before .before .before .before .before .before .before .before .before .before .before .before .before .before .before .way-between in
+    let x = c .before .before .before .before .before .before .before .before .before .before .bounded-astar in
     let t = sheet-of (a .s .now) (a .c) in
-    (search-found t (a .slots) (a .b) (a .start) (a .goal) (a .a) (w .result) (w .ensures .0) (road-at t) (m .result) (x .last .1 .1 .1 .1 .1 .1 .0) _ (x .result .search) (c .before .before .before .before .before .before .before .before .before .before .before .before .before .before .before .before .before .before .before .known2 .given .1) (m .ensures .0 (road-at t) _) (x .ensures .0), m .ensures .1 (a .c .n) (a .c .e) (x .last .1 .1 .1 .1 .1 .1 .0) (x .ensures .1 .1))
+    (search-found t (a .slots) (a .b) (a .start) (a .goal) (a .a) (w .result) (w .ensures .0) (road-at t) (x .result .search) (x .last .1 .1 .1 .1 .1 .1 .0) _ (c .before .before .before .before .before .before .before .before .before .before .before .before .before .before .before .before .before .before .known2 .given .1) (x .ensures .0), x .ensures .1 .1)
 
 pub middle-spec : {M : Type 1} → statement M
 middle-spec =
@@ -60,7 +55,6 @@ middle-spec =
     enum-known-known
     enum-known-known-2
     bounded-astar-requires
-    middle-of-requires
     returns
     same-length
     same-length-2

@@ -5,7 +5,7 @@ use Rattle.model.specs.Sheet.{sheet-of, road-at}
 use Rattle.plans.specs.Turns.{count-of}
 use Rattle.plans.proofs.Trying.{one-pair}
 use Rattle.legs.specs.Found.{seek-at}
-use Rattle.legs.proofs.Middles.{spans-roads, fits-on}
+use Rattle.legs.proofs.Middles.{holds-roads, fits-on}
 use Rattle.rules.specs.Code.{pair-as}
 use borrow.Author.Needs.{needs}
 use Rattle.legs.proofs.tries.try_pair.Statement.{statement}
@@ -33,7 +33,7 @@ settle-requires c κs = search needs
 keep-roads-requires : tie.Need-keep-roads-requires
 keep-roads-requires c κs = let p = c .before .before .before .before .before .before .before .before .before .before .before .before .before .before .before .before .before .before .before .before .before .before .before .before .before .before .before .before .before .before .pre in
     let m = c .before .before .before .before .before .before .before .before .before .before .before .before .before .middle in
-    let r = spans-roads _ _ (m .result) _ (omega (arith, c .before .before .before .before .before .before .before .before .before .before .before .before .before .before .before .before .before .before .before .before .before .before .road .ensures .2)) (m .ensures .1) in
+    let r = holds-roads _ _ (m .result) _ (omega (arith, c .before .before .before .before .before .before .before .before .before .before .before .before .before .before .before .before .before .before .before .before .before .before .road .ensures .2)) (m .ensures .1) in
     (omega (arith, c .before .before .settle .ensures .few, r .0, p .1 .2), omega (arith, c .before .before .settle .ensures .few, r .0, p .1 .1, m .kept .1 .1 .1 .1 .1 .1 .1 .1 .1 .0))
 
 same-length : tie.Need-same-length
@@ -62,7 +62,7 @@ returns c = let a = c .before .before .before .before .before .before .before .b
     let new = m .last .1 .1 .1 .1 .1 .1 .1 .1 .1 .0 in
     let old = a .best-route .now in
     let sh = sheet-of (a .s .now) (a .c) in
-    let r = spans-roads _ _ (m .result) _ (omega (arith, c .before .before .before .before .before .before .before .before .before .before .before .before .before .before .before .before .before .before .before .before .before .before .before .before .before .road .ensures .2)) (m .ensures .1) in
+    let r = holds-roads _ _ (m .result) _ (omega (arith, c .before .before .before .before .before .before .before .before .before .before .before .before .before .before .before .before .before .before .before .before .before .before .before .before .before .road .ensures .2)) (m .ensures .1) in
     let fit : count-of (m .result) ≤ length new = omega (arith, r .0, p .1 .1, m .kept .1 .1 .1 .1 .1 .1 .1 .1 .1 .0) in
     rw (c .before .before .keep-roads .ensures) (
       rw (c .before .before .before .before .before .before .before .before .before .before .before .before .before .before .before .before .before .before .before .before .before .before .before .before .before .road .ensures .0, c .before .before .before .before .before .before .before .before .before .before .before .before .before .before .before .before .before .before .before .before .before .before .before .before .road2 .ensures .0) at (one-pair (a .b) (pair-as (a .start) (c .before .before .before .before .before .before .before .before .before .before .before .before .before .before .before .before .before .before .before .before .before .before .before .before .before .road .result) (a .end) (c .before .before .before .before .before .before .before .before .before .before .before .before .before .before .before .before .before .before .before .before .before .before .before .before .road2 .result)) (a .best) (c .before .before .before .before .before .before .before .before .before .before .before .before .before .before .before .before .before .before .before .before .before .before .before .plan .result) (c .before .before .before .before .before .before .before .before .before .before .before .before .before .before .before .before .before .before .before .before .before .before .ask .result) (m .result) (t .result) (c .before .before .before .before .before .before .before .before .before .before .before .before .before .before .before .before .before .before .before .before .before .before .before .plan .ensures) (c .before .before .before .before .before .before .before .before .before .before .before .before .before .before .before .before .before .before .before .before .before .before .ask .ensures) (t .ensures) (road-at sh) (seek-at sh (a .slots) (a .b)) old new fit (m .ensures .0)),

@@ -1,6 +1,8 @@
 use Prim.Native.Nat.{_+_, _-_, _≤_, _<_}
 use Rattle.model.specs.Sheet.{sheet-of}
 use Rattle.candidates.specs.Found.{Lists}
+use Rattle.lines.proofs.Leaving.{priced, sought-is, leaves-as}
+use Rattle.lines.proofs.Owned.{leg-known}
 use Rattle.lines.proofs.Going.{tail-split, tail-long, Going, going-start, stands-now, room, nearer, next-one, going-on, going-end, short-leg, few-entries}
 use Rattle.legs.proofs.Going.{Kept, kept-start}
 use Rattle.search.proofs.Growth.{sized-on, sizes-on}
@@ -45,73 +47,84 @@ add-to c = omega (arith, c .before .before .before .before .before .loop .inv .4
 find-candidates-requires-2 : tie.Need-find-candidates-requires-2 Inv-loop μ-loop
 find-candidates-requires-2 c κs = (c .before .before .before .before .before .before .before .before .before .before .before .before .before .before .before .before .before .before .pre .0 .0, c .before .before .before .if1 .taken, c .before .before .before .before .before .before .before .before .before .before .before .before .before .before .before .before .before .before .pre .0 .1)
 
-mul-walk-leg : tie.Need-mul-walk-leg Inv-loop μ-loop
-mul-walk-leg c = let a = c .before .before .before .before .before .before .before .before .before .before .before .before .before .before .loop in
-    let now = stands-now _ _ _ _ (a .inv .4) (c .before .before .before .before .before .before .before .before .before .before .before .before .if1 .taken) in
-    let w = c .before .before .before .before .before .before .before .before .before .before .before .before .before .before .before .before .before .before .before .before .before .before .before .before .before .before .before .pre .0 .0 in
-    omega (arith, room _ _ _ _ (a .inv .4) (c .before .before .before .before .before .before .before .before .before .before .before .before .if1 .taken) _ (now .2 .few-roads), few-entries (c .before .before .before .before .before .before .before .before .before .before .before .before .before .before .before .before .before .before .before .before .before .before .before .before .before .before .before .args .s .now) (c .before .before .before .before .before .before .before .before .before .before .before .before .before .before .before .before .before .before .before .before .before .before .before .before .before .before .before .args .c) (c .before .before .before .before .before .before .before .before .before .before .before .before .before .before .before .before .before .before .before .before .before .before .before .before .before .before .before .args .slots) (w .sound .small .p) (w .sound .small .n))
+leg-limits-requires : tie.Need-leg-limits-requires Inv-loop μ-loop
+leg-limits-requires c κs = (c .before .before .before .before .before .before .before .before .before .before .before .before .before .before .before .before .before .before .before .pre .0 .0, omega (arith, c .before .before .before .before .if1 .taken), c .before .before .before .before .before .before .before .before .before .before .before .before .before .before .before .before .before .before .before .pre .0 .1)
 
-sub-walk-leg : tie.Need-sub-walk-leg Inv-loop μ-loop
-sub-walk-leg c = let a = c .before .before .before .before .before .before .before .before .before .before .before .before .before .before .loop in
-    let now = stands-now _ _ _ _ (a .inv .4) (c .before .before .before .before .before .before .before .before .before .before .before .before .if1 .taken) in
-    omega (arith, room _ _ _ _ (a .inv .4) (c .before .before .before .before .before .before .before .before .before .before .before .before .if1 .taken) _ (now .2 .few-roads), a .inv .3, c .before .before .before .before .before .before .before .before .before .before .before .before .before .before .before .before .before .before .before .before .before .before .before .before .before .before .before .pre .1 .0 .2)
-
-part-walk-leg-start : tie.Need-part-walk-leg-start Inv-loop μ-loop
-part-walk-leg-start c = let a = c .before .before .before .before .before .before .before .before .before .before .before .before .before .before .loop in
-    let now = stands-now _ _ _ _ (a .inv .4) (c .before .before .before .before .before .before .before .before .before .before .before .before .if1 .taken) in
-    omega (arith, room _ _ _ _ (a .inv .4) (c .before .before .before .before .before .before .before .before .before .before .before .before .if1 .taken) _ (now .2 .few-roads), a .inv .3, c .before .before .before .before .before .before .before .before .before .before .before .before .before .before .before .before .before .before .before .before .before .before .before .before .before .before .before .pre .1 .0 .2)
-
-part-walk-leg-end : tie.Need-part-walk-leg-end Inv-loop μ-loop
-part-walk-leg-end c = let a = c .before .before .before .before .before .before .before .before .before .before .before .before .before .before .loop in
-    let now = stands-now _ _ _ _ (a .inv .4) (c .before .before .before .before .before .before .before .before .before .before .before .before .if1 .taken) in
-    omega (arith, room _ _ _ _ (a .inv .4) (c .before .before .before .before .before .before .before .before .before .before .before .before .if1 .taken) _ (now .2 .few-roads), a .inv .3, c .before .before .before .before .before .before .before .before .before .before .before .before .before .before .before .before .before .before .before .before .before .before .before .before .before .before .before .pre .1 .0 .2)
-
-walk-leg-requires : tie.Need-walk-leg-requires Inv-loop μ-loop
-walk-leg-requires c κs = let a = c .before .before .before .before .before .before .before .before .before .before .before .before .before .before .before .loop in
-    let p = c .before .before .before .before .before .before .before .before .before .before .before .before .before .before .before .before .before .before .before .before .before .before .before .before .before .before .before .before .pre in
-    let now = stands-now _ _ _ _ (a .inv .4) (c .before .before .before .before .before .before .before .before .before .before .before .before .before .if1 .taken) in
-    let roads = room _ _ _ _ (a .inv .4) (c .before .before .before .before .before .before .before .before .before .before .before .before .before .if1 .taken) _ (now .2 .few-roads) in
-    let covers = room _ _ _ _ (a .inv .4) (c .before .before .before .before .before .before .before .before .before .before .before .before .before .if1 .taken) _ (now .2 .few-coverages) in
+find-best-path-requires : tie.Need-find-best-path-requires Inv-loop μ-loop
+find-best-path-requires c κs = let a = c .before .before .before .before .before .before .before .before .before .before .before .before .before .loop in
+    let p = c .before .before .before .before .before .before .before .before .before .before .before .before .before .before .before .before .before .before .before .before .before .before .before .before .before .before .pre in
     let kept = a .inv .0 in
-    let long = tail-long (a .ids) (a .run .course .written) (omega (arith, roads, a .inv .3, p .1 .0 .2)) in (
-      (p .0 .0, p .0 .1, p .0 .2, c .before .before .before .before .before .before .before .before .before .before .before .before .before .if1 .taken, now .2 .below, a .inv .5 (c .before .before .before .before .before .before .before .before .before .before .before .before .before .if1 .taken), c .before .before .before .before .before .before .before .before .before .find-candidates2 .ensures),
-      (
-        (omega (arith, covers, a .inv .1, p .1 .0 .0), omega (arith, covers, a .inv .2, p .1 .0 .1), omega (arith, roads, a .inv .3, p .1 .0 .2, long)),
-        (p .1 .1 .0, omega (arith, kept .route, p .1 .1 .1), omega (arith, kept .best-route, p .1 .1 .2), sized-on (p .1 .1 .3) (kept .sizes)),
-      ),
+    ((p .0 .0, priced (c .before .before .before .before .before .before .before .before .before .before .before .before .before .before .before .before .before .before .before .before .before .before .before .before .before .before .args .s .now) (c .before .before .before .before .before .before .before .before .before .before .before .before .before .before .before .before .before .before .before .before .before .before .before .before .before .before .args .c) (p .0 .0) (a .run .next) (c .before .before .before .before .before .before .leg-limits .ensures), p .0 .2, a .inv .5 (c .before .before .before .before .before .before .before .before .before .before .before .if1 .taken) .ready, c .before .before .before .before .before .before .before .find-candidates2 .ensures .ready), (p .1 .1 .0, omega (arith, kept .route, p .1 .1 .1), omega (arith, kept .best-route, p .1 .1 .2), sized-on (p .1 .1 .3) (kept .sizes)))
+
+mul-leave : tie.Need-mul-leave Inv-loop μ-loop
+mul-leave c = let a = c .before .before .before .before .before .before .before .before .before .before .before .before .before .before .before .before .before .before .before .before .before .before .before .before .before .before .before .before .before .loop in
+    let now = stands-now _ _ _ _ (a .inv .4) (c .before .before .before .before .before .before .before .before .before .before .before .before .before .before .before .before .before .before .before .before .before .before .before .before .before .before .before .if1 .taken) in
+    let w = c .before .before .before .before .before .before .before .before .before .before .before .before .before .before .before .before .before .before .before .before .before .before .before .before .before .before .before .before .before .before .before .before .before .before .before .before .before .before .before .before .before .before .pre .0 .0 in
+    omega (arith, room _ _ _ _ (a .inv .4) (c .before .before .before .before .before .before .before .before .before .before .before .before .before .before .before .before .before .before .before .before .before .before .before .before .before .before .before .if1 .taken) _ (now .2 .few-roads), few-entries (c .before .before .before .before .before .before .before .before .before .before .before .before .before .before .before .before .before .before .before .before .before .before .before .before .before .before .before .before .before .before .before .before .before .before .before .before .before .before .before .before .before .before .args .s .now) (c .before .before .before .before .before .before .before .before .before .before .before .before .before .before .before .before .before .before .before .before .before .before .before .before .before .before .before .before .before .before .before .before .before .before .before .before .before .before .before .before .before .before .args .c) (c .before .before .before .before .before .before .before .before .before .before .before .before .before .before .before .before .before .before .before .before .before .before .before .before .before .before .before .before .before .before .before .before .before .before .before .before .before .before .before .before .before .before .args .slots) (w .sound .small .p) (w .sound .small .n))
+
+sub-leave : tie.Need-sub-leave Inv-loop μ-loop
+sub-leave c = let a = c .before .before .before .before .before .before .before .before .before .before .before .before .before .before .before .before .before .before .before .before .before .before .before .before .before .before .before .before .before .loop in
+    let now = stands-now _ _ _ _ (a .inv .4) (c .before .before .before .before .before .before .before .before .before .before .before .before .before .before .before .before .before .before .before .before .before .before .before .before .before .before .before .if1 .taken) in
+    omega (arith, room _ _ _ _ (a .inv .4) (c .before .before .before .before .before .before .before .before .before .before .before .before .before .before .before .before .before .before .before .before .before .before .before .before .before .before .before .if1 .taken) _ (now .2 .few-roads), a .inv .3, c .before .before .before .before .before .before .before .before .before .before .before .before .before .before .before .before .before .before .before .before .before .before .before .before .before .before .before .before .before .before .before .before .before .before .before .before .before .before .before .before .before .before .pre .1 .0 .2)
+
+part-leave-start : tie.Need-part-leave-start Inv-loop μ-loop
+part-leave-start c = let a = c .before .before .before .before .before .before .before .before .before .before .before .before .before .before .before .before .before .before .before .before .before .before .before .before .before .before .before .before .before .loop in
+    let now = stands-now _ _ _ _ (a .inv .4) (c .before .before .before .before .before .before .before .before .before .before .before .before .before .before .before .before .before .before .before .before .before .before .before .before .before .before .before .if1 .taken) in
+    omega (arith, room _ _ _ _ (a .inv .4) (c .before .before .before .before .before .before .before .before .before .before .before .before .before .before .before .before .before .before .before .before .before .before .before .before .before .before .before .if1 .taken) _ (now .2 .few-roads), a .inv .3, c .before .before .before .before .before .before .before .before .before .before .before .before .before .before .before .before .before .before .before .before .before .before .before .before .before .before .before .before .before .before .before .before .before .before .before .before .before .before .before .before .before .before .pre .1 .0 .2)
+
+part-leave-end : tie.Need-part-leave-end Inv-loop μ-loop
+part-leave-end c = let a = c .before .before .before .before .before .before .before .before .before .before .before .before .before .before .before .before .before .before .before .before .before .before .before .before .before .before .before .before .before .loop in
+    let now = stands-now _ _ _ _ (a .inv .4) (c .before .before .before .before .before .before .before .before .before .before .before .before .before .before .before .before .before .before .before .before .before .before .before .before .before .before .before .if1 .taken) in
+    omega (arith, room _ _ _ _ (a .inv .4) (c .before .before .before .before .before .before .before .before .before .before .before .before .before .before .before .before .before .before .before .before .before .before .before .before .before .before .before .if1 .taken) _ (now .2 .few-roads), a .inv .3, c .before .before .before .before .before .before .before .before .before .before .before .before .before .before .before .before .before .before .before .before .before .before .before .before .before .before .before .before .before .before .before .before .before .before .before .before .before .before .before .before .before .before .pre .1 .0 .2)
+
+leave-requires : tie.Need-leave-requires Inv-loop μ-loop
+leave-requires c κs = let a = c .before .before .before .before .before .before .before .before .before .before .before .before .before .before .before .before .before .before .before .before .before .before .before .before .before .before .before .before .before .before .loop in
+    let p = c .before .before .before .before .before .before .before .before .before .before .before .before .before .before .before .before .before .before .before .before .before .before .before .before .before .before .before .before .before .before .before .before .before .before .before .before .before .before .before .before .before .before .before .pre in
+    let now = stands-now _ _ _ _ (a .inv .4) (c .before .before .before .before .before .before .before .before .before .before .before .before .before .before .before .before .before .before .before .before .before .before .before .before .before .before .before .before .if1 .taken) in
+    let roads = room _ _ _ _ (a .inv .4) (c .before .before .before .before .before .before .before .before .before .before .before .before .before .before .before .before .before .before .before .before .before .before .before .before .before .before .before .before .if1 .taken) _ (now .2 .few-roads) in
+    let covers = room _ _ _ _ (a .inv .4) (c .before .before .before .before .before .before .before .before .before .before .before .before .before .before .before .before .before .before .before .before .before .before .before .before .before .before .before .before .if1 .taken) _ (now .2 .few-coverages) in
+    let long = tail-long (a .ids) (a .run .course .written) (omega (arith, roads, a .inv .3, p .1 .0 .2)) in
+    let f = c .before .before .before .before .before .before .before .before .before .before .before .before .before .before .before .before .find-best-path in
+    let t = sheet-of (c .before .before .before .before .before .before .before .before .before .before .before .before .before .before .before .before .before .before .before .before .before .before .before .before .before .before .before .before .before .before .before .before .before .before .before .before .before .before .before .before .before .before .before .args .s .now) (c .before .before .before .before .before .before .before .before .before .before .before .before .before .before .before .before .before .before .before .before .before .before .before .before .before .before .before .before .before .before .before .before .before .before .before .before .before .before .before .before .before .before .before .args .c) in
+    let is = f .ensures .0 ∙ sought-is t (c .before .before .before .before .before .before .before .before .before .before .before .before .before .before .before .before .before .before .before .before .before .before .before .before .before .before .before .before .before .before .before .before .before .before .before .before .before .before .before .before .before .before .before .args .slots) (a .run .next) (c .before .before .before .before .before .before .before .before .before .before .before .before .before .before .before .before .before .before .before .before .before .before .before .leg-limits .ensures) (a .inv .5 (c .before .before .before .before .before .before .before .before .before .before .before .before .before .before .before .before .before .before .before .before .before .before .before .before .before .before .before .before .if1 .taken) .are) (c .before .before .before .before .before .before .before .before .before .before .before .before .before .before .before .before .before .before .before .before .before .before .before .before .find-candidates2 .ensures .are) in (
+      (p .0 .0, leg-known (c .before .before .before .before .before .before .before .before .before .before .before .before .before .before .before .before .before .before .before .before .before .before .before .before .before .before .before .before .before .before .before .before .before .before .before .before .before .before .before .before .before .before .before .args .s .now) (c .before .before .before .before .before .before .before .before .before .before .before .before .before .before .before .before .before .before .before .before .before .before .before .before .before .before .before .before .before .before .before .before .before .before .before .before .before .before .before .before .before .before .before .args .c) (p .0 .0) (c .before .before .before .before .before .before .before .before .before .before .before .before .before .before .before .before .before .before .before .before .before .before .before .before .before .before .before .before .before .before .before .before .before .before .before .before .before .before .before .before .before .before .before .args .slots) (a .run .next) (c .before .before .before .before .before .before .before .before .before .before .before .before .before .before .before .before .before .before .before .before .before .before .before .before .before .before .before .before .if1 .taken) (f .result) (f .last .1 .1 .1 .1 .1 .1 .1 .1 .1 .0) is (f .ensures .1) (omega (arith, a .inv .0 .best-route, p .1 .1 .2, f .kept .1 .1 .1 .1 .1 .1 .1 .1 .1 .0)), now .2 .below),
+      (omega (arith, covers, a .inv .1, p .1 .0 .0), omega (arith, covers, a .inv .2, p .1 .0 .1), omega (arith, roads, a .inv .3, p .1 .0 .2, long)),
     )
 
 advance-requires : tie.Need-advance-requires Inv-loop μ-loop
-advance-requires c κs = let a = c .before .before .before .before .before .before .before .before .before .before .before .before .before .before .before .before .before .before .before .before .before .before .before .before .before .before .before .before .before .before .before .before .before .before .loop in
-    let w = c .before .before .before .before .before .before .before .before .before .before .before .before .before .before .before .before .before .before .before .before .before .before .before .before .before .before .before .before .before .before .before .before .before .before .before .before .before .before .before .before .before .before .before .before .before .before .before .pre .0 .0 in
-    let now = stands-now _ _ _ _ (a .inv .4) (c .before .before .before .before .before .before .before .before .before .before .before .before .before .before .before .before .before .before .before .before .before .before .before .before .before .before .before .before .before .before .before .before .if1 .taken) in
-    let few = few-entries (c .before .before .before .before .before .before .before .before .before .before .before .before .before .before .before .before .before .before .before .before .before .before .before .before .before .before .before .before .before .before .before .before .before .before .before .before .before .before .before .before .before .before .before .before .before .before .before .args .s .now) (c .before .before .before .before .before .before .before .before .before .before .before .before .before .before .before .before .before .before .before .before .before .before .before .before .before .before .before .before .before .before .before .before .before .before .before .before .before .before .before .before .before .before .before .before .before .before .before .args .c) (c .before .before .before .before .before .before .before .before .before .before .before .before .before .before .before .before .before .before .before .before .before .before .before .before .before .before .before .before .before .before .before .before .before .before .before .before .before .before .before .before .before .before .before .before .before .before .before .args .slots) (w .sound .small .p) (w .sound .small .n) in
-    (omega (arith, a .inv .4 .in-range, w .sound .small .p), omega (arith, room _ _ _ _ (a .inv .4) (c .before .before .before .before .before .before .before .before .before .before .before .before .before .before .before .before .before .before .before .before .before .before .before .before .before .before .before .before .before .before .before .before .if1 .taken) _ (now .2 .few-roads), few), short-leg _ _ (c .before .before .before .before .before .before .before .before .before .before .before .before .before .before .before .before .before .before .before .before .before .before .before .before .before .before .before .before .before .before .before .before .before .before .before .before .before .before .before .before .before .before .before .before .before .before .before .args .slots) (w .sound .small .n) _ _ _ _ _ _ _ _ _ (c .before .before .before .before .before .before .before .before .before .before .before .before .before .before .before .before .before .before .walk-leg .result) (c .before .before .before .before .before .before .before .before .before .before .before .before .before .before .before .before .before .before .walk-leg .ensures))
+advance-requires c κs = let a = c .before .before .before .before .before .before .before .before .before .before .before .before .before .before .before .before .before .before .before .before .before .before .before .before .before .before .before .before .before .before .before .before .before .before .before .before .before .loop in
+    let w = c .before .before .before .before .before .before .before .before .before .before .before .before .before .before .before .before .before .before .before .before .before .before .before .before .before .before .before .before .before .before .before .before .before .before .before .before .before .before .before .before .before .before .before .before .before .before .before .before .before .before .pre .0 .0 in
+    let now = stands-now _ _ _ _ (a .inv .4) (c .before .before .before .before .before .before .before .before .before .before .before .before .before .before .before .before .before .before .before .before .before .before .before .before .before .before .before .before .before .before .before .before .before .before .before .if1 .taken) in
+    let few = few-entries (c .before .before .before .before .before .before .before .before .before .before .before .before .before .before .before .before .before .before .before .before .before .before .before .before .before .before .before .before .before .before .before .before .before .before .before .before .before .before .before .before .before .before .before .before .before .before .before .before .before .before .args .s .now) (c .before .before .before .before .before .before .before .before .before .before .before .before .before .before .before .before .before .before .before .before .before .before .before .before .before .before .before .before .before .before .before .before .before .before .before .before .before .before .before .before .before .before .before .before .before .before .before .before .before .before .args .c) (c .before .before .before .before .before .before .before .before .before .before .before .before .before .before .before .before .before .before .before .before .before .before .before .before .before .before .before .before .before .before .before .before .before .before .before .before .before .before .before .before .before .before .before .before .before .before .before .before .before .before .args .slots) (w .sound .small .p) (w .sound .small .n) in
+    (omega (arith, a .inv .4 .in-range, w .sound .small .p), omega (arith, room _ _ _ _ (a .inv .4) (c .before .before .before .before .before .before .before .before .before .before .before .before .before .before .before .before .before .before .before .before .before .before .before .before .before .before .before .before .before .before .before .before .before .before .before .if1 .taken) _ (now .2 .few-roads), few), short-leg _ _ (c .before .before .before .before .before .before .before .before .before .before .before .before .before .before .before .before .before .before .before .before .before .before .before .before .before .before .before .before .before .before .before .before .before .before .before .before .before .before .before .before .before .before .before .before .before .before .before .before .before .before .args .slots) (w .sound .small .n) _ _ _ _ _ _ _ _ _ (c .before .before .before .before .before .before .leave .result) (c .before .before .before .before .before .before .leave .ensures))
 
 loop-less : tie.Need-loop-less Inv-loop μ-loop
-loop-less c = rw (c .advance .ensures) (nearer _ _ _ _ (c .before .before .before .before .before .before .before .before .before .before .before .before .before .before .before .before .before .before .before .before .before .before .before .before .before .before .before .before .before .before .before .before .before .before .before .loop .inv .4) (c .before .before .before .before .before .before .before .before .before .before .before .before .before .before .before .before .before .before .before .before .before .before .before .before .before .before .before .before .before .before .before .before .before .if1 .taken) (c .before .before .before .before .before .before .before .before .before .before .before .before .before .before .before .before .before .before .before .walk-leg .result))
+loop-less c = rw (c .advance .ensures) (nearer _ _ _ _ (c .before .before .before .before .before .before .before .before .before .before .before .before .before .before .before .before .before .before .before .before .before .before .before .before .before .before .before .before .before .before .before .before .before .before .before .before .before .before .loop .inv .4) (c .before .before .before .before .before .before .before .before .before .before .before .before .before .before .before .before .before .before .before .before .before .before .before .before .before .before .before .before .before .before .before .before .before .before .before .before .if1 .taken) (c .before .before .before .before .before .before .before .leave .result))
 
 loop-again : tie.Need-loop-again Inv-loop μ-loop
-loop-again c = let a = c .before .before .before .before .before .before .before .before .before .before .before .before .before .before .before .before .before .before .before .before .before .before .before .before .before .before .before .before .before .before .before .before .before .before .before .loop in
-    let p = c .before .before .before .before .before .before .before .before .before .before .before .before .before .before .before .before .before .before .before .before .before .before .before .before .before .before .before .before .before .before .before .before .before .before .before .before .before .before .before .before .before .before .before .before .before .before .before .before .pre in
-    let k = c .before .before .before .before .before .before .before .before .before .before .before .before .before .before .before .before .before .before .before .walk-leg .kept .1 .1 .1 .1 .1 .1 .1 .1 .1 .1 in
-    let l = c .before .before .before .before .before .before .before .before .before .before .before .before .before .before .before .before .before .before .before .walk-leg .last .1 .1 .1 .1 .1 .1 .1 .1 .1 .1 in
+loop-again c = let a = c .before .before .before .before .before .before .before .before .before .before .before .before .before .before .before .before .before .before .before .before .before .before .before .before .before .before .before .before .before .before .before .before .before .before .before .before .before .before .loop in
+    let p = c .before .before .before .before .before .before .before .before .before .before .before .before .before .before .before .before .before .before .before .before .before .before .before .before .before .before .before .before .before .before .before .before .before .before .before .before .before .before .before .before .before .before .before .before .before .before .before .before .before .before .before .pre in
+    let f = c .before .before .before .before .before .before .before .before .before .before .before .before .before .before .before .before .before .before .before .before .before .before .before .before .find-best-path in
+    let k = f .kept .1 .1 .1 .1 .1 .1 in
+    let l = f .last .1 .1 .1 .1 .1 .1 in
+    let left = c .before .before .before .before .before .before .before .leave .kept .1 .1 .1 .1 .1 .1 .1 .1 in
+    let t = sheet-of (c .before .before .before .before .before .before .before .before .before .before .before .before .before .before .before .before .before .before .before .before .before .before .before .before .before .before .before .before .before .before .before .before .before .before .before .before .before .before .before .before .before .before .before .before .before .before .before .before .before .before .before .args .s .now) (c .before .before .before .before .before .before .before .before .before .before .before .before .before .before .before .before .before .before .before .before .before .before .before .before .before .before .before .before .before .before .before .before .before .before .before .before .before .before .before .before .before .before .before .before .before .before .before .before .before .before .before .args .c) in
     let at = a .run .course .written in
-    let now = stands-now _ _ _ _ (a .inv .4) (c .before .before .before .before .before .before .before .before .before .before .before .before .before .before .before .before .before .before .before .before .before .before .before .before .before .before .before .before .before .before .before .before .before .if1 .taken) in
-    let roads = room _ _ _ _ (a .inv .4) (c .before .before .before .before .before .before .before .before .before .before .before .before .before .before .before .before .before .before .before .before .before .before .before .before .before .before .before .before .before .before .before .before .before .if1 .taken) _ (now .2 .few-roads) in
+    let now = stands-now _ _ _ _ (a .inv .4) (c .before .before .before .before .before .before .before .before .before .before .before .before .before .before .before .before .before .before .before .before .before .before .before .before .before .before .before .before .before .before .before .before .before .before .before .before .if1 .taken) in
+    let roads = room _ _ _ _ (a .inv .4) (c .before .before .before .before .before .before .before .before .before .before .before .before .before .before .before .before .before .before .before .before .before .before .before .before .before .before .before .before .before .before .before .before .before .before .before .before .if1 .taken) _ (now .2 .few-roads) in
     let fits : at ≤ length (a .ids) = omega (arith, roads, a .inv .3, p .1 .0 .2) in
-    let long = k .1 .1 .1 .1 .1 .1 .1 .1 .0 ∙ tail-long (a .ids) at fits in
-    let out = l .1 .1 .1 .1 .1 .1 .1 .1 .0 in (
+    let long = left .1 .1 .0 ∙ tail-long (a .ids) at fits in
+    let out = c .before .before .before .before .before .before .before .leave .last .1 .1 .1 .1 .1 .1 .1 .1 .1 .1 .0 in (
       record {
-        sizes = sizes-on (a .inv .0 .sizes) (areas-same (c .before .before .before .before .before .before .before .before .before .before .before .before .before .before .before .before .before .before .before .before .before .before .before .before .before .before .before .before .before .before .before .before .before .before .before .before .before .before .before .before .before .before .before .before .before .before .before .before .args .c .n) (c .before .before .before .before .before .before .before .before .before .before .before .before .before .before .before .before .before .before .before .before .before .before .before .before .before .before .before .before .before .before .before .before .before .before .before .before .before .before .before .before .before .before .before .before .before .before .before .before .args .slots) (a .labels) (a .came-from) (a .entries) (a .links) (l .0) (l .1 .0) (l .1 .1 .1 .1 .0) (l .1 .1 .1 .1 .1 .0) 0 0 0 0 (k .0) (k .1 .0) (k .1 .1 .1 .1 .0) (k .1 .1 .1 .1 .1 .0));
+        sizes = sizes-on (a .inv .0 .sizes) (areas-same (c .before .before .before .before .before .before .before .before .before .before .before .before .before .before .before .before .before .before .before .before .before .before .before .before .before .before .before .before .before .before .before .before .before .before .before .before .before .before .before .before .before .before .before .before .before .before .before .before .before .before .before .args .c .n) (c .before .before .before .before .before .before .before .before .before .before .before .before .before .before .before .before .before .before .before .before .before .before .before .before .before .before .before .before .before .before .before .before .before .before .before .before .before .before .before .before .before .before .before .before .before .before .before .before .before .before .before .args .slots) (a .labels) (a .came-from) (a .entries) (a .links) (l .0) (l .1 .0) (l .1 .1 .1 .1 .0) (l .1 .1 .1 .1 .1 .0) 0 0 0 0 (k .0) (k .1 .0) (k .1 .1 .1 .1 .0) (k .1 .1 .1 .1 .1 .0));
         route = k .1 .1 .0 ∙ a .inv .0 .route;
         best-route = k .1 .1 .1 .0 ∙ a .inv .0 .best-route;
       },
-      k .1 .1 .1 .1 .1 .1 .0 ∙ a .inv .1,
-      k .1 .1 .1 .1 .1 .1 .1 .0 ∙ a .inv .2,
+      left .0 ∙ a .inv .1,
+      left .1 .0 ∙ a .inv .2,
       c .before .before .ids .given .1 ∙ a .inv .3,
-      rw (c .advance .ensures) (going-on _ _ _ _ (a .inv .4) (c .before .before .before .before .before .before .before .before .before .before .before .before .before .before .before .before .before .before .before .before .before .before .before .before .before .before .before .before .before .before .before .before .before .if1 .taken) _ out _ _ (λ m h. tail-split (a .ids) out _ at m fits (omega (arith, roads, a .inv .3, p .1 .0 .2, long))) (c .before .before .before .before .before .before .before .before .before .before .before .before .before .before .before .before .before .before .before .walk-leg .result) (rw (c .before .before .before .before .before .before .before .before .before .before .before .before .before .before .before .before .before .before .before .before .before .before .before .before .before .before .before .before .before .before .before .last-written .ensures) at (c .before .before .before .before .before .before .before .before .before .before .before .before .before .before .before .before .before .before .before .walk-leg .ensures))),
-      (rw (c .advance .ensures) (λ h. rw (next-one _ _ _ _ (a .inv .4) (c .before .before .before .before .before .before .before .before .before .before .before .before .before .before .before .before .before .before .before .before .before .before .before .before .before .before .before .before .before .before .before .before .before .if1 .taken) (c .before .before .before .before .before .before .before .before .before .before .before .before .before .before .before .before .before .before .before .walk-leg .result) h) (c .before .before .before .before .before .before .before .before .before .before .before .before .before .before .before .before .before .before .before .before .before .before .before .before .before .before .before .before .before .find-candidates2 .ensures))),
+      rw (c .advance .ensures) (going-on _ _ _ _ (a .inv .4) (c .before .before .before .before .before .before .before .before .before .before .before .before .before .before .before .before .before .before .before .before .before .before .before .before .before .before .before .before .before .before .before .before .before .before .before .before .if1 .taken) _ out _ _ (λ m h. tail-split (a .ids) out _ at m fits (omega (arith, roads, a .inv .3, p .1 .0 .2, long))) (c .before .before .before .before .before .before .before .leave .result) (rw (c .before .before .before .before .before .before .before .before .before .before .before .before .before .before .before .before .before .before .before .before .before .before .before .before .before .before .before .before .before .before .before .before .before .before .last-written .ensures) at (leaves-as _ _ _ _ _ _ _ _ _ _ (c .before .before .before .before .before .before .before .before .before .before .before .before .before .before .before .before .before .before .before .before .before .before .before .before .before .before .before .before .before .before .before .leg-limits .ensures) (f .ensures .0 ∙ sought-is t (c .before .before .before .before .before .before .before .before .before .before .before .before .before .before .before .before .before .before .before .before .before .before .before .before .before .before .before .before .before .before .before .before .before .before .before .before .before .before .before .before .before .before .before .before .before .before .before .before .before .before .before .args .slots) (a .run .next) (c .before .before .before .before .before .before .before .before .before .before .before .before .before .before .before .before .before .before .before .before .before .before .before .before .before .before .before .before .before .before .before .leg-limits .ensures) (a .inv .5 (c .before .before .before .before .before .before .before .before .before .before .before .before .before .before .before .before .before .before .before .before .before .before .before .before .before .before .before .before .before .before .before .before .before .before .before .before .if1 .taken) .are) (c .before .before .before .before .before .before .before .before .before .before .before .before .before .before .before .before .before .before .before .before .before .before .before .before .before .before .before .before .before .before .before .before .find-candidates2 .ensures .are)) (c .before .before .before .before .before .before .before .leave .ensures)))),
+      (rw (c .advance .ensures) (λ h. rw (next-one _ _ _ _ (a .inv .4) (c .before .before .before .before .before .before .before .before .before .before .before .before .before .before .before .before .before .before .before .before .before .before .before .before .before .before .before .before .before .before .before .before .before .before .before .before .if1 .taken) (c .before .before .before .before .before .before .before .leave .result) h) (c .before .before .before .before .before .before .before .before .before .before .before .before .before .before .before .before .before .before .before .before .before .before .before .before .before .before .before .before .before .before .before .before .find-candidates2 .ensures))),
     )
 
 same-length : tie.Need-same-length Inv-loop μ-loop
@@ -157,11 +170,13 @@ walk-legs-spec =
     last-written-requires
     add-to
     find-candidates-requires-2
-    mul-walk-leg
-    sub-walk-leg
-    part-walk-leg-start
-    part-walk-leg-end
-    walk-leg-requires
+    leg-limits-requires
+    find-best-path-requires
+    mul-leave
+    sub-leave
+    part-leave-start
+    part-leave-end
+    leave-requires
     advance-requires
     loop-less
     loop-again
