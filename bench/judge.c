@@ -78,10 +78,12 @@ int main(void) {
         int turns = len > 1000000 ? 1 : len > 100000 ? 10 : 2000;
         double judging = 1e30, summing = 1e30;
         for (int round = 0; round < 400; round++) {
+            keep += hemokatu_judge(b, len).number; // not timed: what ran last has no part
             double t = now();
             for (int k = 0; k < turns; k++) keep += hemokatu_judge(b, len).number;
             t = (now() - t) / turns;
             if (t < judging) judging = t;
+            keep += sum(b, len);
             t = now();
             for (int k = 0; k < turns; k++) {
                 keep += sum(b, len);

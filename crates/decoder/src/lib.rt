@@ -6,15 +6,15 @@ use model::Judged;
 use sheet::numbers;
 use sheet::points;
 ghost use mathlib.Core.Path.{_≡_};
-ghost use Prim.Native.Nat.{_≤_, _<_, min};
+ghost use Prim.Native.Nat.{_<_, min};
 ghost use lib.ListN.{length};
 ghost use Rattle.model.specs.Judge.{WellFormed};
 ghost use Rattle.model.specs.Sheet.{sheet-of};
 ghost use Rattle.model.specs.View.{view};
 ghost use Rattle.model.specs.Search.{bounded-astar};
 ghost use Rattle.model.specs.Decode.{outcome};
-ghost use Rattle.model.specs.Call.{answered, most-entries, decode};
-ghost use Rattle.search.specs.Areas.{columns, Sized};
+ghost use Rattle.model.specs.Call.{answered, decode};
+ghost use Rattle.search.specs.Areas.{AnswerRoom, LegRoom};
 ghost use Rattle.answers.specs.Room.{lists, decoded};
 ghost use Rattle.decoder.specs.Opened.{lent, Opens};
 
@@ -65,8 +65,8 @@ fn decode_sheet(
     lengths: &mut [f64],
 ) -> Answer
     requires { ⌜ WellFormed (now s) c ⌝ }
-    requires { ⌜ (most-entries (c .p) (c .n) ≤ length (now covered)) × (most-entries (c .p) (c .n) ≤ length (now coverage)) × (most-entries (c .p) (c .n) ≤ length (now ids)) × (most-entries (c .p) (c .n) ≤ length (now lengths)) ⌝ }
-    requires { ⌜ (0 < slots) × (c .n ≤ length (now route)) × (c .n ≤ length (now «best_route»)) × Sized (c .n) slots (columns (c .n) slots (now labels) (now «came_from») (now entries) (now links) 0 0) ⌝ }
+    requires { ⌜ AnswerRoom c (now covered) (now coverage) (now ids) (now lengths) ⌝ }
+    requires { ⌜ LegRoom (c .n) slots (now labels) (now «came_from») (now route) (now «best_route») (now entries) (now links) ⌝ }
     ensures { λ r. ⌜ decoded r (now (ids .exit)) (now (lengths .exit))
         ≡ answered (sheet-of (now (s .entry)) c) (lists (now (ids .entry)) (now (lengths .entry))) (outcome (view (sheet-of (now (s .entry)) c)) (bounded-astar slots)) ⌝ }
 {

@@ -18,7 +18,8 @@ ghost use Rattle.model.specs.View.{view};
 ghost use Rattle.model.specs.Search.{bounded-astar};
 ghost use Rattle.model.specs.Decode.{refused, matched, outcome};
 ghost use Rattle.model.specs.Decode as decode;
-ghost use Rattle.model.specs.Call.{answered, most-entries};
+ghost use Rattle.search.specs.Areas.{AnswerRoom};
+ghost use Rattle.model.specs.Call.{answered};
 ghost use Rattle.answers.specs.Room.{lists, decoded};
 ghost use Rattle.search.specs.Answers.{Numbers};
 ghost use Rattle.lines.specs.Legs.{Runs};
@@ -101,7 +102,7 @@ fn finish_course(
     lengths: &mut [f64],
 ) -> Answer
     requires { ⌜ WellFormed (now s) c × (set ≡ sheet-of (now s) c .settings) × ((slots : ℕ) × Comes (sheet-of (now s) c) c (outcome (view (sheet-of (now s) c)) (bounded-astar slots)) (now ids) (now covered) (now coverage) (Outcome.Legs x)) ⌝ }
-    requires { ⌜ (most-entries (c .p) (c .n) ≤ length (now covered)) × (most-entries (c .p) (c .n) ≤ length (now coverage)) × (most-entries (c .p) (c .n) ≤ length (now ids)) × (most-entries (c .p) (c .n) ≤ length (now lengths)) ⌝ }
+    requires { ⌜ AnswerRoom c (now covered) (now coverage) (now ids) (now lengths) ⌝ }
     ensures { λ r. ⌜ ((slots : ℕ) → Comes (sheet-of (now (s .entry)) c) c (outcome (view (sheet-of (now (s .entry)) c)) (bounded-astar slots)) (now (ids .entry)) (now (covered .entry)) (now (coverage .entry)) (Outcome.Legs x)
         → decoded r (now (ids .exit)) (now (lengths .exit)) ≡ answered (sheet-of (now (s .entry)) c) (lists (now (ids .entry)) (now (lengths .entry))) (outcome (view (sheet-of (now (s .entry)) c)) (bounded-astar slots))) ⌝ }
 {
@@ -125,7 +126,7 @@ pub fn answer(
     lengths: &mut [f64],
 ) -> Answer
     requires { ⌜ WellFormed (now s) c × (set ≡ sheet-of (now s) c .settings) × ((slots : ℕ) × Comes (sheet-of (now s) c) c (outcome (view (sheet-of (now s) c)) (bounded-astar slots)) (now ids) (now covered) (now coverage) out) ⌝ }
-    requires { ⌜ (most-entries (c .p) (c .n) ≤ length (now covered)) × (most-entries (c .p) (c .n) ≤ length (now coverage)) × (most-entries (c .p) (c .n) ≤ length (now ids)) × (most-entries (c .p) (c .n) ≤ length (now lengths)) ⌝ }
+    requires { ⌜ AnswerRoom c (now covered) (now coverage) (now ids) (now lengths) ⌝ }
     ensures { λ r. ⌜ ((slots : ℕ) → Comes (sheet-of (now (s .entry)) c) c (outcome (view (sheet-of (now (s .entry)) c)) (bounded-astar slots)) (now (ids .entry)) (now (covered .entry)) (now (coverage .entry)) out
         → decoded r (now (ids .exit)) (now (lengths .exit)) ≡ answered (sheet-of (now (s .entry)) c) (lists (now (ids .entry)) (now (lengths .entry))) (outcome (view (sheet-of (now (s .entry)) c)) (bounded-astar slots))) ⌝ }
 {

@@ -13,15 +13,14 @@ use rules::routes;
 use rules::same_edge;
 ghost use mathlib.Core.Path.{_≡_};
 ghost use mathlib.Core.List.{List};
-ghost use Prim.Native.Nat.{ℕ, _≤_, _<_};
-ghost use lib.ListN.{length};
+ghost use Prim.Native.Nat.{ℕ, _<_};
 ghost use Rattle.model.specs.declared.Road.{Road};
 ghost use Rattle.model.specs.Judge.{WellFormed};
 ghost use Rattle.model.specs.Sheet.{sheet-of, road-at};
 ghost use Rattle.model.specs.Legs.{sought, find-best-path};
 ghost use Rattle.candidates.specs.Found.{held, Ready};
 ghost use Rattle.rules.specs.Code.{best-of};
-ghost use Rattle.search.specs.Areas.{columns, Sized};
+ghost use Rattle.search.specs.Areas.{LegRoom};
 ghost use Rattle.legs.specs.Found.{seek-at, end-of, sought-of, Priced, Fits, Holds};
 
 // What a leg finds: its best route, whose middle is in the front of an area; no path; or the heap used up.
@@ -72,7 +71,7 @@ pub fn find_best_path(
     links: &mut [usize],
 ) -> Sought
     requires { ⌜ WellFormed (now s) c × Priced b × (0 < c .n) × Ready c starts × Ready c ends ⌝ }
-    requires { ⌜ (0 < slots) × (c .n ≤ length (now route)) × (c .n ≤ length (now «best_route»)) × Sized (c .n) slots (columns (c .n) slots (now labels) (now «came_from») (now entries) (now links) 0 0) ⌝ }
+    requires { ⌜ LegRoom (c .n) slots (now labels) (now «came_from») (now route) (now «best_route») (now entries) (now links) ⌝ }
     ensures means { λ r. ⌜ sought-of (road-at (sheet-of (now (s .entry)) c)) r (now («best_route» .exit))
         ≡ find-best-path b (seek-at (sheet-of (now (s .entry)) c) slots b) (held (sheet-of (now (s .entry)) c) starts) (held (sheet-of (now (s .entry)) c) ends) ⌝ }
     ensures holds { λ r. ⌜ Holds (c .n) (c .e) r (now («best_route» .exit)) ⌝ }

@@ -16,7 +16,7 @@ ghost use Rattle.model.specs.Judge.{WellFormed};
 ghost use Rattle.model.specs.Sheet.{sheet-of, road-at};
 ghost use Rattle.model.specs.Search.{Found, found};
 ghost use Rattle.plans.specs.Turns.{by-ask, renewed};
-ghost use Rattle.search.specs.Areas.{columns, Sized};
+ghost use Rattle.search.specs.Areas.{SearchRoom};
 ghost use Rattle.search.specs.Answers.{answer, Holds};
 ghost use Rattle.legs.specs.Found.{seek-at, by-way, Priced, Brief};
 
@@ -56,7 +56,7 @@ pub fn middle(
     links: &mut [usize],
 ) -> Search
     requires { ⌜ WellFormed (now s) c × Priced b × (start < c .n) × (goal < c .n) ⌝ }
-    requires { ⌜ (0 < slots) × (c .n ≤ length (now route)) × Sized (c .n) slots (columns (c .n) slots (now labels) (now «came_from») (now entries) (now links) 0 0) ⌝ }
+    requires { ⌜ SearchRoom (c .n) slots (now labels) (now «came_from») (now route) (now entries) (now links) ⌝ }
     ensures means { λ m. ⌜ answer (road-at (sheet-of (now (s .entry)) c)) m (now (route .exit)) ≡ by-ask (seek-at (sheet-of (now (s .entry)) c) slots b start goal) a ⌝ }
     ensures holds { λ m. ⌜ Holds (c .n) (c .e) m (now (route .exit)) ⌝ }
 {

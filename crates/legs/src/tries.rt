@@ -14,7 +14,6 @@ use sheet::roads;
 ghost use mathlib.Core.Path.{_≡_};
 ghost use mathlib.Core.Option.{none};
 ghost use Prim.Native.Nat.{_≤_, _<_};
-ghost use lib.ListN.{length};
 ghost use Rattle.model.specs.Lists.{sort};
 ghost use Rattle.model.specs.Judge.{WellFormed};
 ghost use Rattle.model.specs.Sheet.{sheet-of, road-at};
@@ -22,7 +21,7 @@ ghost use Rattle.model.specs.Legs.{pair, pairs, by-sum, try-pair, try-pairs};
 ghost use Rattle.candidates.specs.Found.{at-road, held, Ready};
 ghost use Rattle.rules.specs.Code.{best-of};
 ghost use Rattle.plans.specs.Turns.{turn-of};
-ghost use Rattle.search.specs.Areas.{columns, Sized};
+ghost use Rattle.search.specs.Areas.{LegRoom};
 ghost use Rattle.legs.specs.Found.{seek-at, end-of, place-after, Priced, Fits};
 
 // One pair: what it asks for, the search if it asks for one, and what comes of it. The best route's middle is in the front of `best_route`.
@@ -42,7 +41,7 @@ pub fn try_pair(
     links: &mut [usize],
 ) -> State
     requires { ⌜ WellFormed (now s) c × Priced b × (start .road < c .e) × (end .road < c .e) × Fits (c .n) (c .e) best (now «best_route») ⌝ }
-    requires { ⌜ (0 < slots) × (c .n ≤ length (now route)) × (c .n ≤ length (now «best_route»)) × Sized (c .n) slots (columns (c .n) slots (now labels) (now «came_from») (now entries) (now links) 0 0) ⌝ }
+    requires { ⌜ LegRoom (c .n) slots (now labels) (now «came_from») (now route) (now «best_route») (now entries) (now links) ⌝ }
     ensures means { λ t. ⌜ turn-of (t .phase) (best-of (road-at (sheet-of (now (s .entry)) c)) (t .best) (now («best_route» .exit)))
         ≡ try-pair b (seek-at (sheet-of (now (s .entry)) c) slots b) (best-of (road-at (sheet-of (now (s .entry)) c)) best (now («best_route» .entry))) (pair (at-road (sheet-of (now (s .entry)) c) start) (at-road (sheet-of (now (s .entry)) c) end)) ⌝ }
     ensures fits { λ t. ⌜ Fits (c .n) (c .e) (t .best) (now («best_route» .exit)) ⌝ }
@@ -99,7 +98,7 @@ pub fn try_pairs(
     links: &mut [usize],
 ) -> State
     requires { ⌜ WellFormed (now s) c × Priced b × Ready c starts × Ready c ends ⌝ }
-    requires { ⌜ (0 < slots) × (c .n ≤ length (now route)) × (c .n ≤ length (now «best_route»)) × Sized (c .n) slots (columns (c .n) slots (now labels) (now «came_from») (now entries) (now links) 0 0) ⌝ }
+    requires { ⌜ LegRoom (c .n) slots (now labels) (now «came_from») (now route) (now «best_route») (now entries) (now links) ⌝ }
     ensures means { λ t. ⌜ end-of (road-at (sheet-of (now (s .entry)) c)) t (now («best_route» .exit))
         ≡ try-pairs b (seek-at (sheet-of (now (s .entry)) c) slots b) (sort by-sum (pairs (held (sheet-of (now (s .entry)) c) starts) (held (sheet-of (now (s .entry)) c) ends))) none ⌝ }
     ensures fits { λ t. ⌜ Fits (c .n) (c .e) (t .best) (now («best_route» .exit)) ⌝ }

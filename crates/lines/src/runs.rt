@@ -8,12 +8,10 @@ use model::Counts;
 use model::Settings;
 ghost use mathlib.Core.Path.{_≡_};
 ghost use mathlib.Core.Bool.{false};
-ghost use Prim.Native.Nat.{_+_, _≤_, _<_};
-ghost use lib.ListN.{length};
+ghost use Prim.Native.Nat.{_+_, _<_};
 ghost use Rattle.model.specs.Judge.{WellFormed};
 ghost use Rattle.model.specs.Sheet.{sheet-of};
-ghost use Rattle.model.specs.Call.{most-entries};
-ghost use Rattle.search.specs.Areas.{columns, Sized};
+ghost use Rattle.search.specs.Areas.{LegRoom, ListRoom};
 ghost use Rattle.lines.specs.Legs.{legs-of, Ends};
 
 // decode_line, where lengths and coverages are summed, and decode_point_along_line, whose one leg is not. Each leg writes behind the roads already there; the candidates of its end are those of the next leg's start.
@@ -34,8 +32,8 @@ pub fn walk_legs(
     ids: &mut [u64],
 ) -> Legs
     requires { ⌜ WellFormed (now s) c × (set ≡ sheet-of (now s) c .settings) × (0 < c .n) × (0 < c .p) × (summed ≡ false → c .p ≡ 2) ⌝ }
-    requires { ⌜ (most-entries (c .p) (c .n) ≤ length (now covered)) × (most-entries (c .p) (c .n) ≤ length (now coverage)) × (most-entries (c .p) (c .n) ≤ length (now ids)) ⌝ }
-    requires { ⌜ (0 < slots) × (c .n ≤ length (now route)) × (c .n ≤ length (now «best_route»)) × Sized (c .n) slots (columns (c .n) slots (now labels) (now «came_from») (now entries) (now links) 0 0) ⌝ }
+    requires { ⌜ ListRoom c (now covered) (now coverage) (now ids) ⌝ }
+    requires { ⌜ LegRoom (c .n) slots (now labels) (now «came_from») (now route) (now «best_route») (now entries) (now links) ⌝ }
     ensures { λ r. ⌜ Ends (sheet-of (now (s .entry)) c) c (legs-of summed (sheet-of (now (s .entry)) c) slots) (now (ids .exit)) (now (covered .exit)) (now (coverage .exit)) (r .end) (r .course) ⌝ }
 {
     let points = c.p;

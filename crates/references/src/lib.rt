@@ -9,8 +9,7 @@ use model::Counts;
 use model::POINT_ALONG_LINE;
 use sheet::points;
 ghost use mathlib.Core.List.{List};
-ghost use Prim.Native.Nat.{ℕ, _≤_, _<_};
-ghost use lib.ListN.{length};
+ghost use Prim.Native.Nat.{ℕ, _<_};
 ghost use lib.Ieee.{Float};
 ghost use Rattle.model.specs.declared.Counts.{Counts};
 ghost use Rattle.model.specs.Judge.{WellFormed};
@@ -19,8 +18,7 @@ ghost use Rattle.model.specs.View.{view};
 ghost use Rattle.model.specs.Search.{bounded-astar};
 ghost use Rattle.model.specs.Decode.{outcome};
 ghost use Rattle.model.specs.Decode as decode;
-ghost use Rattle.model.specs.Call.{most-entries};
-ghost use Rattle.search.specs.Areas.{columns, Sized};
+ghost use Rattle.search.specs.Areas.{LegRoom, ListRoom};
 ghost use Rattle.lines.specs.Legs.{Ends};
 ghost use Rattle.references.specs.Reference.{Looks, Placed, Comes};
 
@@ -84,8 +82,8 @@ pub fn decode_legs(
     ids: &mut [u64],
 ) -> Outcome
     requires { ⌜ WellFormed (now s) c ⌝ }
-    requires { ⌜ (most-entries (c .p) (c .n) ≤ length (now covered)) × (most-entries (c .p) (c .n) ≤ length (now coverage)) × (most-entries (c .p) (c .n) ≤ length (now ids)) ⌝ }
-    requires { ⌜ (0 < slots) × (c .n ≤ length (now route)) × (c .n ≤ length (now «best_route»)) × Sized (c .n) slots (columns (c .n) slots (now labels) (now «came_from») (now entries) (now links) 0 0) ⌝ }
+    requires { ⌜ ListRoom c (now covered) (now coverage) (now ids) ⌝ }
+    requires { ⌜ LegRoom (c .n) slots (now labels) (now «came_from») (now route) (now «best_route») (now entries) (now links) ⌝ }
     ensures { λ r. ⌜ Comes (sheet-of (now (s .entry)) c) c (outcome (view (sheet-of (now (s .entry)) c)) (bounded-astar slots)) (now (ids .exit)) (now (covered .exit)) (now (coverage .exit)) r ⌝ }
 {
     let set = points::settings(s, c);

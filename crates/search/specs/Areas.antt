@@ -14,6 +14,7 @@ use Rattle.model.specs.Numbers.{f0}
 use Rattle.model.specs.Lists.{tab}
 use Rattle.model.specs.Sheet.{sheet-of, road-at}
 use Rattle.model.specs.Search.{Label, Entry, State}
+use Rattle.model.specs.Call.{most-entries}
 
 -- ---- labels
 
@@ -96,6 +97,24 @@ pub record Sized (n slots : ℕ) (a : Columns) : Type 0 where
   pub cost : slots ≤ length (a .cost)
   pub node : slots ≤ length (a .node)
   pub order : slots ≤ length (a .order)
+
+-- ---- what is lent, with room
+
+-- for a search over n nodes with a heap of `slots` entries, and the route that it finds
+abbrev pub SearchRoom : ℕ → ℕ → List Float → List ℕ → List ℕ → List Float → List ℕ → Type 0
+SearchRoom n slots labels came route entries links = (0 < slots) × (n ≤ length route) × Sized n slots (columns n slots labels came entries links 0 0)
+
+-- for the searches of a leg, and its best route
+abbrev pub LegRoom : ℕ → ℕ → List Float → List ℕ → List ℕ → List ℕ → List Float → List ℕ → Type 0
+LegRoom n slots labels came route best-route entries links = (0 < slots) × (n ≤ length route) × (n ≤ length best-route) × Sized n slots (columns n slots labels came entries links 0 0)
+
+-- for the coverages and the roads of all legs
+abbrev pub ListRoom : Counts → List ℕ → List Float → List ℕ → Type 0
+ListRoom c covered coverage ids = (most-entries (c .p) (c .n) ≤ length covered) × (most-entries (c .p) (c .n) ≤ length coverage) × (most-entries (c .p) (c .n) ≤ length ids)
+
+-- the same, with both answer lists
+abbrev pub AnswerRoom : Counts → List ℕ → List Float → List ℕ → List Float → Type 0
+AnswerRoom c covered coverage ids lengths = (most-entries (c .p) (c .n) ≤ length covered) × (most-entries (c .p) (c .n) ≤ length coverage) × (most-entries (c .p) (c .n) ≤ length ids) × (most-entries (c .p) (c .n) ≤ length lengths)
 
 -- a mark, or the number of one of e roads
 abbrev pub Mark : ℕ → ℕ → Type 0

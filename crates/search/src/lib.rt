@@ -12,13 +12,12 @@ use model::Counts;
 use sheet::distances;
 ghost use mathlib.Core.Path.{_≡_};
 ghost use Prim.Native.Nat.{ℕ, _≤_, _<_};
-ghost use lib.ListN.{length};
 ghost use Rattle.model.specs.Judge.{WellFormed};
 ghost use Rattle.model.specs.Sheet.{sheet-of, road-at};
 ghost use Rattle.model.specs.Search.{search-within, bounded-astar};
 ghost use Rattle.bounds.specs.Amounts.{Amount};
 ghost use Rattle.search.specs.Ask.{asked, query-at};
-ghost use Rattle.search.specs.Areas.{columns, labels-at, Sized};
+ghost use Rattle.search.specs.Areas.{columns, labels-at, Sized, SearchRoom};
 ghost use Rattle.search.specs.Answers.{Stands, ended, answer, Holds};
 
 // What a search is asked: the way from `start` to `goal`, no path longer than `bound` metres, under the constraints of its leg.
@@ -80,7 +79,7 @@ pub fn bounded_astar(
     links: &mut [usize],
 ) -> Searched
     requires { ⌜ WellFormed (now s) c × (ask .start < c .n) × (ask .goal < c .n) × Amount (ask .constraints .«slip_road_cost_penalty») × Amount (ask .constraints .«access_road_cost_penalty») ⌝ }
-    requires { ⌜ (0 < slots) × (c .n ≤ length (now route)) × Sized (c .n) slots (columns (c .n) slots (now labels) (now «came_from») (now entries) (now links) 0 0) ⌝ }
+    requires { ⌜ SearchRoom (c .n) slots (now labels) (now «came_from») (now route) (now entries) (now links) ⌝ }
     ensures found { λ r. ⌜ answer (road-at (sheet-of (now (s .entry)) c)) (r .search) (now (route .exit)) ≡ bounded-astar slots (asked (sheet-of (now (s .entry)) c) ask) (ask .start) ⌝ }
     ensures entries { λ r. ⌜ r .entries ≤ slots ⌝ }
     ensures holds { λ r. ⌜ Holds (c .n) (c .e) (r .search) (now (route .exit)) ⌝ }

@@ -34,20 +34,32 @@ fn main() {
 fn print(set: &Set, spent: &[Spent]) {
     let mean = |time: fn(&Spent) -> f64| spent.iter().map(time).sum::<f64>() / spent.len() as f64;
     let original = [mean(|s| s.original.best), mean(|s| s.original.median)];
+    let with_lists = [mean(|s| s.with_lists.best), mean(|s| s.with_lists.median)];
     let decode = [mean(|s| s.decode().best), mean(|s| s.decode().median)];
     let port = [mean(|s| s.port.best), mean(|s| s.port.median)];
     let judge = [mean(|s| s.judge.best), mean(|s| s.judge.median)];
     println!("{}, {} sheets", set.name, spent.len());
     let line = |name: &str, time: [f64; 2]| println!("  {name} {:.2} {:.2}", time[0], time[1]);
     line("original", original);
+    line("original with lists", with_lists);
     line("decode", decode);
     line("judge", judge);
-    let faster = |name: &str, time: [f64; 2], ratio: fn(&Spent) -> f64| {
-        let [best, median] = [original[0] / time[0], original[1] / time[1]];
+    let faster = |name: &str, than: [f64; 2], time: [f64; 2], ratio: fn(&Spent) -> f64| {
+        let [best, median] = [than[0] / time[0], than[1] / time[1]];
         let least = spent.iter().map(ratio).fold(f64::INFINITY, f64::min);
         let slower = spent.iter().filter(|s| ratio(s) < 1.0).count();
         println!("  {name} is {best:.1} {median:.1} times faster, least {least:.2}, slower on {slower} sheets");
     };
-    faster("decode", decode, |s| s.original.best / s.decode().best);
-    faster("decode with judge", port, |s| s.original.best / s.port.best);
+    faster("decode", original, decode, |s| {
+        s.original.best / s.decode().best
+    });
+    faster(
+        "decode, the original with lists,",
+        with_lists,
+        decode,
+        |s| s.with_lists.best / s.decode().best,
+    );
+    faster("decode with judge", original, port, |s| {
+        s.original.best / s.port.best
+    });
 }

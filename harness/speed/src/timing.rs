@@ -31,6 +31,8 @@ impl Time {
 
 pub struct Spent {
     pub original: Time,
+    /// The original, and two lists as long as the port's zeroed behind it.
+    pub with_lists: Time,
     /// The whole call of the port.
     pub port: Time,
     pub judge: Time,
@@ -46,8 +48,9 @@ impl Spent {
     }
 }
 
-/// Microseconds of each of `calls` calls.
+/// Microseconds of each of `calls` calls. One before them is not timed, so that what ran last has no part in them.
 fn clock(calls: usize, mut call: impl FnMut()) -> f64 {
+    call();
     let start = Instant::now();
     for _ in 0..calls {
         call();
@@ -61,6 +64,8 @@ struct Both<'a> {
     bytes: Vec<u8>,
     areas: Areas,
     port: Port,
+    ids: Vec<u64>,
+    lengths: Vec<f64>,
 }
 
 impl<'a> Both<'a> {
@@ -77,14 +82,26 @@ impl<'a> Both<'a> {
             bytes,
             areas,
             port,
+            ids: vec![1; areas.lists()],
+            lengths: vec![1.0; areas.lists()],
         }
     }
 
     fn original(&self, decoder: &Decoder, calls: usize) -> f64 {
-        lend_reference(self.sheet, calls);
+        lend_reference(self.sheet, calls + 1);
         counted_std::take_searches();
         clock(calls, || {
             let _ = black_box(decoder.decode(""));
+        })
+    }
+
+    fn with_lists(&mut self, decoder: &Decoder, calls: usize) -> f64 {
+        lend_reference(self.sheet, calls + 1);
+        counted_std::take_searches();
+        clock(calls, || {
+            let _ = black_box(decoder.decode(""));
+            black_box(&mut self.ids).fill(0);
+            black_box(&mut self.lengths).fill(0.0);
         })
     }
 
@@ -101,12 +118,12 @@ impl<'a> Both<'a> {
     }
 }
 
-/// Two calls of each; both programs had the first to be compared.
+/// Two calls of each beside the one to compare them; the first of the two is `clock`'s own.
 pub fn twice(sheet: &Sheet) {
     let mut both = Both::of(sheet);
     both.original(&Original::of(sheet).decoder(), 1);
     both.port(1);
-    both.judge(2);
+    both.judge(1);
 }
 
 pub fn timed(sheet: &Sheet) -> Spent {
@@ -115,15 +132,17 @@ pub fn timed(sheet: &Sheet) -> Spent {
     let decoder = original.decoder();
     let calls = [both.original(&decoder, 2), both.port(2), both.judge(2)];
     let calls = calls.map(|once| (ROUND / once).ceil() as usize);
-    let mut spent = [vec![], vec![], vec![]];
+    let mut spent = [vec![], vec![], vec![], vec![]];
     for _ in 0..ROUNDS {
         spent[0].push(both.original(&decoder, calls[0]));
         spent[1].push(both.port(calls[1]));
         spent[2].push(both.judge(calls[2]));
+        spent[3].push(both.with_lists(&decoder, calls[0]));
     }
-    let [original, port, judge] = spent.map(Time::of);
+    let [original, port, judge, with_lists] = spent.map(Time::of);
     Spent {
         original,
+        with_lists,
         port,
         judge,
     }
