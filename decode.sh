@@ -19,14 +19,7 @@ Ends with 0 for a path, 1 for a refusal, 2 for a file that cannot be read or a b
 END
 }
 
-case ${1:-} in
--h | --help) usage; exit 0 ;;
---) shift ;;
--) ;;
--*) say "no such option: $1"; usage >&2; exit 2 ;;
-esac
-[ $# -le 1 ] || { say "one sheet at a time"; usage >&2; exit 2; }
-take_sheet "${1-$root/sheets/s1.sheet}"
+take_arguments "$@"
 
 # What a list program printed, and the status that goes with it.
 answer() { # TEXT STATUS
@@ -34,10 +27,6 @@ answer() { # TEXT STATUS
     printf '%s\n' "$1"
     case $1 in
     'path '*) exit 0 ;;
-    'refused 6 '* | 'refused 11 '*)
-        say "the areas of the list program are small; examples/desk.sh lends larger ones"
-        exit 1
-        ;;
     'refused '*) exit 1 ;;
     *) exit 2 ;;
     esac
@@ -69,5 +58,8 @@ else
     build target/bin/roadlist check roadlist
     text=$("$root/target/bin/roadlist" <"$sheet")
     status=$?
+    case $text in
+    'refused 6 '* | 'refused 11 '*) say "the areas of the list program are small; examples/desk.sh lends larger ones" ;;
+    esac
 fi
 answer "$text" "$status"

@@ -1,19 +1,17 @@
-// Decodes full-size sheets through the library: the least stack of a thread that does, and the time. See docs/PERFORMANCE.md.
+// Decodes full-size sheets through the library: the stack of the call, the least stack of a thread that makes it, and the time. See docs/PERFORMANCE.md.
 #define _GNU_SOURCE
-#include "../include/hemokatu.h"
+#include "../examples/sheet.h"
 #include <pthread.h>
 #include <stdio.h>
 #include <stdlib.h>
-#include <string.h>
 #include <sys/mman.h>
 #include <sys/wait.h>
 #include <time.h>
+#include <ucontext.h>
 #include <unistd.h>
 
 enum { P = 16, N = 1024, E = 4096, M = 1024, G = 1024, SIDE = 32, STEP = 15 };
 
-static void put32(uint8_t *b, uint32_t v) { memcpy(b, &v, 4); }
-static void put64(uint8_t *b, double v) { memcpy(b, &v, 8); }
 static int around(int d) {
     d = (d % SIDE + SIDE) % SIDE;
     return d > SIDE / 2 ? SIDE - d : d;
@@ -23,54 +21,64 @@ static int around(int d) {
 static int steps(int v, int w) { return around(v % SIDE - w % SIDE) + around(v / SIDE - w / SIDE); }
 static int up(const void *a, const void *b) { return *(const int *)a - *(const int *)b; }
 
+// The node that road r leads to: east, south, west or north of where it begins.
+static uint32_t target(int r) {
+    int x = r / 4 % SIDE, y = r / 4 / SIDE, d = r % 4;
+    x = (x + (d == 0) - (d == 2) + SIDE) % SIDE;
+    y = (y + (d == 1) - (d == 3) + SIDE) % SIDE;
+    return (uint32_t)(x + SIDE * y);
+}
+
+static void make_roads(uint8_t *roads, uint8_t *lists, uint8_t *numbers) {
+    for (int r = 0; r < E; r++) {
+        double length = 90 + (r * 2654435761u >> 16) % 21;
+        put_road(roads + HEMOKATU_ROAD_SIZE * r, &(Road){.id = 1000000 + r, .length = length, .source = r / 4, .target = target(r), .frc = 3, .fow = 3});
+        put_listed(numbers, r, r);
+    }
+    for (int v = 0; v <= N; v++) put_listed(lists, v, 4 * v);
+}
+
+// Point i, with a row for each road of the 4 x 4 nodes to its east and south.
+static void make_point(uint8_t *points, uint8_t *rows, int i) {
+    static const double bearing[4] = {90, 180, 270, 0};
+    int is_last = i + 1 == P, x = STEP * i % SIDE, y = x, near[64], k = 0;
+    put_point(points + HEMOKATU_POINT_SIZE * i, &(Point){.dnp = is_last ? 0 : 2 * STEP * 100, .bearing = 90, .frc = 3, .fow = 3,
+                                                         .limit = is_last ? HEMOKATU_NO_PATH_ENTRY : 3, .rows = 64});
+    for (int dy = 0; dy < 4; dy++)
+        for (int dx = 0; dx < 4; dx++)
+            for (int d = 0; d < 4; d++) near[k++] = 4 * ((x + dx) % SIDE + SIDE * ((y + dy) % SIDE)) + d;
+    qsort(near, 64, sizeof *near, up);
+    for (k = 0; k < 64; k++) {
+        double distance = 3.0 * steps(near[k] / 4, x + SIDE * y) + 0.25 * (near[k] % 4);
+        put_row(rows + HEMOKATU_ROW_SIZE * (64 * i + k),
+                &(Row){.road = near[k], .distance = distance, .bearing = bearing[near[k] % 4], .along = 25, .line_length = 100});
+    }
+}
+
+static void make_distances(uint8_t *b, int to, double each) {
+    for (int v = 0; v < N; v++) put_distance(b, v, each * steps(v, to));
+}
+
 // The largest sheet that is well-formed: a torus of 32 x 32 nodes, 16 points 30 roads apart. `hard`: all weights 0, so that nearly every pair of a leg is searched, and goal distances 0, so that a search visits all nodes.
 static size_t make(uint8_t *b, int hard) {
-    size_t roads = 168 + 24 * P, lists = roads + 32 * E, numbers = lists + 4 * (N + 1), rows = numbers + 4 * E;
-    size_t distances = rows + 40 * M, goals = distances + 16 * N, width = 8 + 8 * N, total = goals + G * width;
-    memset(b, 0, total);
-    uint32_t header[14] = {1, P, N, E, M, G, 56, 168, roads, lists, rows, distances, total, 0};
-    for (int i = 0; i < 14; i++) put32(b + 4 * i, header[i]);
-    double settings[13] = {100, hard ? 180 : 90, 35, hard ? 0 : 10, hard ? 0 : 0.2, hard ? 0 : 0.1, hard ? 0 : 0.1, 0.35, 100, 2, 20, 10, 25};
-    for (int i = 0; i < 13; i++) put64(b + 56 + 8 * i, settings[i]);
-    b[56 + 104] = 2, b[56 + 105] = 1, b[56 + 106] = 64;
-    for (int r = 0; r < E; r++) {
-        uint8_t *q = b + roads + 32 * r;
-        int v = r / 4, x = v % SIDE, y = v / SIDE, d = r % 4;
-        int w = d == 0 ? (x + 1) % SIDE + SIDE * y : d == 1 ? x + SIDE * ((y + 1) % SIDE) : d == 2 ? (x + SIDE - 1) % SIDE + SIDE * y : x + SIDE * ((y + SIDE - 1) % SIDE);
-        uint64_t id = 1000000 + r;
-        memcpy(q, &id, 8);
-        put64(q + 8, 90 + (r * 2654435761u >> 16) % 21);
-        put32(q + 16, v), put32(q + 20, w);
-        q[24] = 3, q[25] = 3;
-        put32(b + numbers + 4 * r, r);
-    }
-    for (int v = 0; v <= N; v++) put32(b + lists + 4 * v, 4 * v);
-    for (int i = 0; i < P; i++) {
-        uint8_t *q = b + 168 + 24 * i;
-        put64(q, i + 1 < P ? 2 * STEP * 100 : 0);
-        q[8] = 90, q[10] = 3, q[11] = 3, q[12] = i + 1 < P ? 3 : 255;
-        put32(q + 16, 64);
-        int x = STEP * i % SIDE, y = STEP * i % SIDE, near[64], k = 0;
-        for (int dy = 0; dy < 4; dy++)
-            for (int dx = 0; dx < 4; dx++)
-                for (int d = 0; d < 4; d++) near[k++] = 4 * ((x + dx) % SIDE + SIDE * ((y + dy) % SIDE)) + d;
-        qsort(near, 64, sizeof *near, up);
-        for (k = 0; k < 64; k++) {
-            uint8_t *w = b + rows + 40 * (64 * i + k);
-            static const double bearing[4] = {90, 180, 270, 0};
-            put32(w, near[k]);
-            put64(w + 8, 3.0 * steps(near[k] / 4, x + SIDE * y) + 0.25 * (near[k] % 4));
-            put64(w + 16, bearing[near[k] % 4]), put64(w + 24, 25), put64(w + 32, 100);
-        }
-    }
-    int last = STEP * (P - 1) % SIDE * (SIDE + 1);
-    for (int v = 0; v < N; v++) put64(b + distances + 8 * v, 90.0 * steps(v, 0)), put64(b + distances + 8 * (N + v), 90.0 * steps(v, last));
+    const Counts counts = {.kind = HEMOKATU_KIND_LINE, .points = P, .nodes = N, .roads = E, .rows = M, .goals = G};
+    const Places at = places_of(&counts);
+    Settings s = default_settings();
+    s.most_candidates = HEMOKATU_MOST_CANDIDATES;
+    if (hard) s.most_bearing_difference = 180, s.distance_weight = 0, s.bearing_weight = 0, s.frc_weight = 0, s.fow_weight = 0;
+    memset(b, 0, at.total);
+    put_header(b, &counts);
+    put_settings(b + at.settings, &s);
+    for (int i = 0; i < P; i++) make_point(b + at.points, b + at.rows, i);
+    make_roads(b + at.roads, b + at.lists, b + at.numbers);
+    make_distances(b + at.distances, 0, 90);
+    make_distances(b + at.distances + HEMOKATU_DISTANCE_SIZE * N, STEP * (P - 1) % SIDE * (SIDE + 1), 90);
     for (int g = 0; g < G; g++) {
-        uint8_t *q = b + goals + g * width;
-        put32(q, g);
-        for (int v = 0; v < N; v++) put64(q + 8 + 8 * v, hard ? 0 : 90.0 * steps(v, g));
+        uint8_t *goal = b + at.goals + g * at.goal_size;
+        put32(goal + HEMOKATU_GOAL_NODE, g);
+        make_distances(goal + HEMOKATU_GOAL_DISTANCES, g, hard ? 0 : 90);
     }
-    return total;
+    return at.total;
 }
 
 enum { SLOTS = 1 << 15, LIST = (P + 4) * (N + 1) };
@@ -115,6 +123,37 @@ static size_t in_thread(const uint8_t *b, size_t len, size_t stack, size_t *out)
     return *out;
 }
 
+// The sheet for the call on a painted stack.
+static const uint8_t *sheet;
+static size_t sheet_len;
+
+static void call(void) { decode(sheet, sheet_len); }
+static void no_call(void) {}
+
+// The bytes of a painted stack that a function of its own context touches.
+static size_t touched(void (*function)(void)) {
+    enum { PAINT = 0xA5 };
+    static uint8_t stack[1 << 18];
+    ucontext_t here, there;
+    size_t untouched = 0;
+    memset(stack, PAINT, sizeof stack);
+    getcontext(&there);
+    there.uc_stack.ss_sp = stack;
+    there.uc_stack.ss_size = sizeof stack;
+    there.uc_link = &here;
+    makecontext(&there, function, 0);
+    swapcontext(&here, &there);
+    while (untouched < sizeof stack && stack[untouched] == PAINT) untouched++;
+    return sizeof stack - untouched;
+}
+
+// The bytes of stack that the call takes. Once before, so that no symbol is resolved on that stack.
+static size_t stack_of_call(const uint8_t *b, size_t len) {
+    sheet = b, sheet_len = len;
+    call();
+    return touched(call) - touched(no_call);
+}
+
 static double now(void) {
     struct timespec t;
     clock_gettime(CLOCK_MONOTONIC, &t);
@@ -140,7 +179,8 @@ static void run(const char *name, int hard, int rounds) {
         t[i] = now() - start;
     }
     qsort(t, rounds, sizeof *t, less);
-    printf("%s: %zu bytes, %zu roads, least stack %zu KiB, best %.1f us, median %.1f us of %d\n", name, len, roads, stack, t[0], t[rounds / 2], rounds);
+    printf("%s: %zu bytes, %zu roads, stack of the call %zu bytes, least stack of a thread %zu KiB, best %.1f us, median %.1f us of %d\n", name, len,
+           roads, stack_of_call(b, len), stack, t[0], t[rounds / 2], rounds);
     free(t);
 }
 

@@ -24,14 +24,7 @@ if [ "${1:-}" = --list ]; then
     form=--list
     shift
 fi
-case ${1:-} in
--h | --help) usage; exit 0 ;;
---) shift ;;
--) ;;
--*) say "no such option: $1"; usage >&2; exit 2 ;;
-esac
-[ $# -le 1 ] || { say "one sheet at a time"; usage >&2; exit 2; }
-take_sheet "${1-$root/sheets/s1.sheet}"
+take_arguments "$@"
 take_library
 
 # Programs of a library that is named in another folder, or is not the last one, are built anew.

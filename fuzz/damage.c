@@ -1,6 +1,5 @@
 // Ways to damage a sheet. Some leave it well-formed.
 #include "fuzz.h"
-#include <string.h>
 
 static uint32_t edge32(void) {
     static const uint32_t edges[] = {0, 1, 2, 7, 8, 16, 17, 63, 64, 65, 255, 256, 360, 361, 1024, 1025, 4096, 4097, 0x7FFFFFFF, 0x80000000, 0xFFFFFFFF};
@@ -47,13 +46,15 @@ static void change_header(uint8_t *b, size_t len) {
 // another count with the offsets and the length that belong to it
 static size_t change_count(uint8_t *b, size_t len, size_t room) {
     if (len < HEMOKATU_HEADER_SIZE) return len;
-    uint32_t counts[COUNTS], i = below(COUNTS);
-    memcpy(counts, b, sizeof counts);
-    counts[i] = one_in(2) ? counts[i] + below(3) - 1 : one_in(4) ? edge32() : below(20);
-    size_t total = places_of(counts).total;
+    Counts counts;
+    uint32_t words[sizeof counts / 4], i = below(sizeof counts / 4);
+    memcpy(words, b, sizeof words);
+    words[i] = one_in(2) ? words[i] + below(3) - 1 : one_in(4) ? edge32() : below(20);
+    memcpy(&counts, words, sizeof counts);
+    size_t total = places_of(&counts).total;
     if (total > room || total > len + 4096) return len;
     if (total > len) memset(b + len, 0, total - len);
-    put_header(b, counts);
+    put_header(b, &counts);
     return total;
 }
 

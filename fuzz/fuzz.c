@@ -147,10 +147,10 @@ int LLVMFuzzerTestOneInput(const uint8_t *data, size_t size) {
     uint64_t sum = size;
     for (size_t i = 0; i < size; i++) sum = (sum ^ data[i]) * 0x100000001B3;
     draw_from(sum);
-    uint32_t counts[COUNTS] = {0};
-    if (size >= sizeof counts) memcpy(counts, data, sizeof counts);
+    Counts counts = {0};
+    if (size >= sizeof counts) counts = counts_of(data);
     lend_sheet(&c, data, size);
-    draw_sizes(&c, counts[POINTS] % 17, counts[NODES] % 1025);
+    draw_sizes(&c, counts.points % 17, counts.nodes % 1025);
     HemokatuAnswered r = call_once(&c);
     answered[(r.number * 1021 + r.a * 31 + r.b * 7 + r.count) % sizeof answered] = 1;
     call++;
@@ -181,8 +181,7 @@ static void call_group(uint64_t group) {
     draw_from(draw());
     setitimer(ITIMER_VIRTUAL, &limit, NULL);
     size_t len = make_sheet(made, draw_size());
-    uint32_t counts[COUNTS];
-    memcpy(counts, made, sizeof counts);
+    Counts counts = counts_of(made);
     if (hemokatu_judge(made, len).number) stop("a sheet made by the header's layout is refused");
     size_t points = draw() >> below(64), nodes = draw() >> below(64);
     if (!sizes_right(points, nodes)) stop("the sizes");
@@ -193,7 +192,7 @@ static void call_group(uint64_t group) {
             now = damage(damaged, len, SHEET_ROOM);
         }
         lend_sheet(&c, i >= GROUP / 2 ? damaged : made, now);
-        draw_sizes(&c, counts[POINTS], counts[NODES]);
+        draw_sizes(&c, counts.points, counts.nodes);
         call_once(&c);
     }
 }

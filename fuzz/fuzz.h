@@ -2,7 +2,7 @@
 #ifndef FUZZ_H
 #define FUZZ_H
 
-#include "../include/hemokatu.h"
+#include "../examples/sheet.h"
 
 // ---- random.c: numbers from a seed
 
@@ -13,18 +13,15 @@ int one_in(uint32_t n);
 
 // ---- layout.c
 
-// the counts, in the header's order
-enum { KIND, POINTS, NODES, ROADS, ROWS, GOALS, COUNTS };
-
-// Where the sections of a sheet begin.
-typedef struct {
-    size_t points, roads, lists, numbers, rows, distances, goals, total;
-} Places;
-
 enum { SHEET_ROOM = 9 << 20 };
 
-Places places_of(const uint32_t counts[COUNTS]);
-void put_header(uint8_t *b, const uint32_t counts[COUNTS]);
+// The counts of a sheet that has a header.
+static inline Counts counts_of(const uint8_t *b) {
+    Counts c;
+    memcpy(&c, b, sizeof c);
+    return c;
+}
+
 int layout_right(uint8_t *b); // whether the constants of hemokatu.h are the judge's; b: SHEET_ROOM bytes to try it in
 
 // ---- sheets.c

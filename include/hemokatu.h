@@ -21,7 +21,7 @@ extern "C" {
 
 /* The sheet, little-endian. Behind the header its sections follow without gaps in the order of their offsets; a record's
  * bytes that are named by none of its places are 0. Every f64 has its sign bit clear and is at most HEMOKATU_MOST_F64.
- * examples/s1.c writes a sheet by these constants; docs/MEASURE.md says how each number is measured. */
+ * examples/sheet.h writes the parts of a sheet by these constants; docs/MEASURE.md says how each number is measured. */
 enum hemokatu_sheet {
     /* Places in the header, u32 each: kind, counts, offsets of the sections, length of the sheet, 0. */
     HEMOKATU_HEADER_KIND = 0,

@@ -22,6 +22,18 @@ trap 'exit 129' HUP
 trap 'exit 130' INT
 trap 'exit 143' TERM
 
+# The words of a command that decodes one sheet and has a usage. Sets `sheet`; S1 where none is named.
+take_arguments() {
+    case ${1:-} in
+    -h | --help) usage; exit 0 ;;
+    --) shift ;;
+    -) ;;
+    -*) say "no such option: $1"; usage >&2; exit 2 ;;
+    esac
+    [ $# -le 1 ] || { say "one sheet at a time"; usage >&2; exit 2; }
+    take_sheet "${1-$root/sheets/s1.sheet}"
+}
+
 # Tests a sheet's name before anything is built, and sets `sheet` to its path. Standard input, and whatever is no plain
 # file, is copied: no sheet is longer than 8,606,252 bytes, and of a longer one so many and one more are enough to refuse it.
 take_sheet() { # FILE
@@ -76,6 +88,13 @@ build() {
     touch "$root/$product"
 }
 
+# Whether rt is another toolchain than the one that TOOLCHAIN names. Sets `toolchain` and `pinned`.
+other_toolchain() {
+    pinned=$(cat "$root/TOOLCHAIN") || exit 2
+    toolchain=$(rt version 2>/dev/null) || toolchain="one without a version"
+    [ "$toolchain" != "$pinned" ]
+}
+
 # Runs rt with these words, and tells of each crate as it is proved.
 # target/proved.COMMAND has the seconds to each crate of the last time that all were proved.
 prove() {
@@ -83,6 +102,7 @@ prove() {
     last=$root/target/proved.$1
     total=$(sed -n 's/^all //p' "$last" 2>/dev/null)
     if [ -n "$total" ]; then about="$total s, by the last time"; else about="about ten minutes on two cores"; fi
+    ! other_toolchain || say "rt is $toolchain, not the $pinned of TOOLCHAIN: what it proves may differ"
     say "proves the decoder first (rt $*), which takes $about"
     rm -f "$last.status"
     began=$(date +%s)

@@ -35,6 +35,8 @@ folder=$(realpath -m -- "$1")
 mkdir -p -- "$(dirname -- "$folder")" || exit 2
 for tool in cc rt; do command -v "$tool" >/dev/null || { say "$tool is not on the path"; exit 2; }; done
 
+! other_toolchain || { say "rt is $toolchain, not the $pinned of TOOLCHAIN"; exit 2; }
+
 # One version everywhere.
 number=$(sed -n 's/^#define HEMOKATU_VERSION \([0-9]*\).*/\1/p' "$root/include/hemokatu.h")
 version=$((number / 10000)).$((number / 100 % 100)).$((number % 100))
@@ -71,7 +73,7 @@ printf '%s\n' "$tally" | grep -Eqx '[1-9][0-9]* passed, 0 failed' ||
     { say "the gate has not passed: its last line is '$tally', not 'N passed, 0 failed'"; exit 1; }
 {
     echo "hemokatu $version, $sources"
-    echo "toolchain: $(rt version 2>/dev/null || echo unknown)"
+    echo "toolchain: $toolchain"
     echo "rt ci, $kept:"
     echo
     cat "$own/said"

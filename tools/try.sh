@@ -21,6 +21,7 @@ cc -std=c11 -O2 -o "$room/desk" "$here/examples/desk.c" "$library" || exit 2
 cp "$library" "$room/libhemokatu.a"
 cat >"$room/bin/rt" <<END
 #!/bin/sh
+[ "\$1" != version ] || { cat "$room/version"; exit; }
 echo "\$*" >>"$room/calls"
 [ ! -e "$room/fails" ] || { echo "rt: model NOT PROVED (exit 1, 3 s)"; echo "rt: FAILED: model"; exit 1; }
 case "\$1 \$2" in
@@ -48,6 +49,7 @@ case "\$1 \$2" in
 esac
 END
 chmod +x "$room/bin/rt"
+cp "$clone/TOOLCHAIN" "$room/version"
 PATH=$room/bin:$PATH
 [ "$(command -v rt)" = "$room/bin/rt" ] || exit 2
 calls() { if [ -e "$room/calls" ]; then wc -l <"$room/calls"; else echo 0; fi; }
@@ -70,6 +72,19 @@ try() { # NAME STATUS OUT ERR WORD...
 }
 holds() { # FILE TEXT; an empty text is that of an empty file
     if [ -z "$2" ]; then [ ! -s "$1" ]; else grep -qF -- "$2" "$1"; fi
+}
+# Runs a command, which must not say this on standard error.
+silent() { # NAME ERR WORD...
+    name=$1 err=$2
+    shift 2
+    "$@" >"$room/out" 2>"$room/err" </dev/null
+    tried=$((tried + 1))
+    if grep -qF -- "$err" "$room/err"; then
+        wrong=$((wrong + 1))
+        echo "WRONG: $name: it says '$err'"
+    else
+        echo "ok: $name"
+    fi
 }
 # So many calls of rt up to now.
 called() { # NAME COUNT
@@ -98,6 +113,14 @@ called 'built once' 1
 touch "$clone/crates.txt"
 try 'sources that are newer' 0 'path 1' 'decoder proved (1 s), 1 s in all; the rest took 1 s last time' "$d"
 called 'built again' 2
+echo 'rattle-kit-0 logic 0' >"$room/version"
+touch "$clone/crates.txt"
+try 'another toolchain' 0 'path 1' 'rt is rattle-kit-0 logic 0, not the' "$d"
+try 'another toolchain: no release' 2 '' 'rt is rattle-kit-0 logic 0, not the' "$clone/tools/release.sh" none
+cp "$clone/TOOLCHAIN" "$room/version"
+touch "$clone/crates.txt"
+silent 'the toolchain that is named' 'of TOOLCHAIN' "$d"
+called 'built each time' 4
 # sheets
 for sheet in "$clone"/sheets/*.sheet; do
     name=$(basename "$sheet" .sheet)
@@ -219,6 +242,19 @@ if command -v cargo >/dev/null; then
     try 'host: cargo, HEMOKATU_LIB' 0 "$number $number" '' env HEMOKATU_LIB="$room/hemokatu 0/lib" $cargo
     try 'host: cargo, HEMOKATU_LIB relative' 0 "$number $number" '' env HEMOKATU_LIB=lib $cargo
     try 'host: cargo, HEMOKATU_LIB without a library' 101 '' "which is taken from $room/else where/host, and there is no" env HEMOKATU_LIB=none $cargo
+    # the crate of the clone, whose build script calls rt
+    rm -rf "$clone/target"
+    crate() { env "$@" CARGO_TARGET_DIR="$room/crate" cargo build --offline -j1 --manifest-path "$clone/rust/Cargo.toml"; }
+    before=$(calls)
+    try 'crate: HEMOKATU_LIB' 0 '' 'Finished' crate HEMOKATU_LIB="$room"
+    called 'crate: nothing is proved' "$before"
+    touch "$room/fails"
+    try 'crate: a proof that fails' 101 '' '`rt staticlib hemokatu` failed' crate HEMOKATU_LIB=
+    rm "$room/fails"
+    try 'crate: says that it proves' 0 '' 'proves the decoder and builds it, about ten minutes on two cores. HEMOKATU_LIB=FOLDER names' crate HEMOKATU_LIB=
+    before=$(calls)
+    try 'crate: and another time' 0 '' 'Finished' crate HEMOKATU_LIB=
+    called 'crate: proved once' "$before"
 else
     echo 'not tried: cargo'
 fi
@@ -244,6 +280,11 @@ chmod -R u+w "$clone"
 # no rt
 PATH=$(printf %s "$PATH" | sed "s|^$room/bin:||") && mkdir -p "$room/few" && for c in sh cat dirname realpath find mktemp rm head wc touch mkdir sed env cc; do ln -sf "$(command -v $c)" "$room/few/$c"; done
 try 'without rt' 2 '' "the toolchain's rt is not on the path to build it" env PATH="$room/few" "$d"
+if command -v cargo >/dev/null; then
+    for c in cargo rustc; do ln -sf "$(command -v $c)" "$room/few/$c"; done
+    rm -rf "$clone/target"
+    try 'crate: without rt' 101 '' "put the toolchain's \`rt\` on the path, or HEMOKATU_LIB=FOLDER names" crate HEMOKATU_LIB= PATH="$room/few"
+fi
 
 echo "$tried tried, $wrong wrong"
 [ "$wrong" -eq 0 ]

@@ -1,4 +1,6 @@
-//! Library, header and crate are of one version.
+//! Library, header and crate are of one version, and the toolchain is the one that is named.
+
+use std::process::Command;
 
 #[test]
 fn library_header_and_crate_agree() {
@@ -23,4 +25,21 @@ fn library_header_and_crate_agree() {
     let changes = std::fs::read_to_string(format!("{folder}/CHANGELOG.md")).unwrap();
     let newest = changes.lines().find_map(|line| line.strip_prefix("## "));
     assert_eq!(newest, Some(env!("CARGO_PKG_VERSION")), "CHANGELOG.md");
+}
+
+/// `TOOLCHAIN` and README name what `rt version` prints. Where `rt` is not on the path, the first two are compared alone.
+#[test]
+fn the_toolchain_is_the_one_that_is_named() {
+    let root = concat!(env!("CARGO_MANIFEST_DIR"), "/..");
+    let named = std::fs::read_to_string(format!("{root}/TOOLCHAIN")).unwrap();
+    let named = named.trim_end();
+    let readme = std::fs::read_to_string(format!("{root}/README.md")).unwrap();
+    assert!(
+        readme.contains(&format!("`{named}`")),
+        "README.md does not name {named}"
+    );
+    match Command::new("rt").arg("version").output() {
+        Ok(said) => assert_eq!(String::from_utf8_lossy(&said.stdout).trim_end(), named),
+        Err(e) => println!("rt cannot be asked: {e}"),
+    }
 }

@@ -22,7 +22,8 @@ words and draws them. Without crates; base64, format and geometry are this examp
   --whole               all of the network on the sheet, not the part that can matter
   --network FILE        another network; the town that ships with this if not given
   --svg FILE            where the picture goes; host.svg if not given
-  --zoom                the picture shows the surroundings of the path, not all of the network
+  --zoom                the picture shows the surroundings of the path, or of the points where there is none, not all
+                        of the network
   --help                this text
 
 It ends with 0 for a path, 1 for a refusal and 2 for anything else.

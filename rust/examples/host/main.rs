@@ -37,7 +37,7 @@ const TOWN: &str = include_str!("town.csv");
 
 fn main() -> ExitCode {
     let mut text = String::new();
-    let ended = run(&mut text);
+    let ended = run(std::env::args().skip(1), &mut text);
     // Whoever reads may have gone.
     let _ = std::io::stdout().write_all(text.as_bytes());
     match ended {
@@ -51,8 +51,8 @@ fn main() -> ExitCode {
 }
 
 /// Whether there is a path. What is said of it is added to the text.
-fn run(text: &mut String) -> Result<bool, String> {
-    let Some(arguments) = Arguments::parse(std::env::args().skip(1))? else {
+fn run(words: impl Iterator<Item = String>, text: &mut String) -> Result<bool, String> {
+    let Some(arguments) = Arguments::parse(words)? else {
         *text += HELP;
         return Ok(true);
     };
@@ -96,8 +96,8 @@ fn run(text: &mut String) -> Result<bool, String> {
                 .ok_or("the answer names a road that is not there")?;
             *text += &words::of_match(&network, &reference, found, &located);
             picture.result = format!(
-                "{} roads, {:.0} m from the first point to the last",
-                found.ids.len(),
+                "{}, {:.0} m from the first point to the last",
+                words::counted(found.ids.len(), "road"),
                 found.length_m
             );
             picture.located = Some(located);

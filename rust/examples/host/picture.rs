@@ -11,7 +11,10 @@ pub const WIDTH: f64 = 1200.0;
 /// The heights of title and legend.
 const HEAD: f64 = 62.0;
 pub const FOOT: f64 = 92.0;
-const MARGIN: f64 = 36.0;
+/// Room for the bearing of a point at the edge.
+const MARGIN: f64 = BEARING + 8.0;
+/// How long the line of a bearing is.
+const BEARING: f64 = 44.0;
 pub const PATH: &str = "#1f4fd0";
 pub const TRIMMED: &str = "#8fb0f4";
 pub const POINT: &str = "#c8102e";
@@ -90,6 +93,8 @@ impl Picture<'_> {
         let mut shown: Vec<Place> = self.reference.points.iter().map(|point| point.at).collect();
         match &self.located {
             Some(located) if self.zoom => shown.extend(&located.line),
+            // nothing matched: what is around the points
+            None if self.zoom && !shown.is_empty() => {}
             _ => shown.extend(self.host.network.nodes.iter().map(|node| node.at)),
         }
         if shown.is_empty() {
@@ -187,14 +192,13 @@ impl Picture<'_> {
 
     /// Each point with its number and its bearing. The last one's leads up to it, for so it is measured.
     fn points(&self, view: &View, svg: &mut String) {
-        const LONG: f64 = 44.0;
         let count = self.reference.points.len();
         for (number, point) in self.reference.points.iter().enumerate() {
             let (x, y) = view.at(point.at);
             let (sin, cos) = point.bearing.to_radians().sin_cos();
             let (begin, end) = match number + 1 == count {
-                true => (-LONG, -9.0),
-                false => (9.0, LONG),
+                true => (-BEARING, -16.0),
+                false => (9.0, BEARING),
             };
             let (bx, by, ex, ey) = (
                 x + begin * sin,

@@ -5,9 +5,18 @@ use crate::network::Network;
 use crate::reference::Reference;
 use hemokatu::{Kind, Match};
 
+/// So many of a thing.
+pub fn counted(count: usize, thing: &str) -> String {
+    match count {
+        1 => format!("1 {thing}"),
+        _ => format!("{count} {thing}s"),
+    }
+}
+
 /// A few lines on a reference.
 pub fn of_reference(reference: &Reference) -> String {
-    let mut text = format!("{}, {} points\n", reference.kind, reference.points.len());
+    let points = counted(reference.points.len(), "point");
+    let mut text = format!("{}, {points}\n", reference.kind);
     for (number, point) in reference.points.iter().enumerate() {
         text += &format!(
             "  point {number} at {:.6} {:.6}, bearing {:.1}, FRC {}, FOW {}",
@@ -43,8 +52,8 @@ pub fn of_match(
     located: &Located,
 ) -> String {
     let mut text = format!(
-        "path of {} roads, {:.1} m from the first point to the last\n",
-        found.ids.len(),
+        "path of {}, {:.1} m from the first point to the last\n",
+        counted(found.ids.len(), "road"),
         found.length_m
     );
     for stretch in stretches(network, &located.roads) {

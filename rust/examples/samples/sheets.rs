@@ -87,7 +87,8 @@ fn s1() -> SheetBuilder {
     one_road(&[(25.0, Some(50.0)), (75.0, None)])
 }
 
-fn road(id: u64, length_m: f64, source: usize, target: usize) -> Road {
+/// A road of class 3, form of way 3.
+pub fn road(id: u64, length_m: f64, source: usize, target: usize) -> Road {
     Road {
         id,
         length_m,
@@ -100,7 +101,7 @@ fn road(id: u64, length_m: f64, source: usize, target: usize) -> Road {
 }
 
 /// On a road of 100 m eastward.
-fn row(road: usize, along_m: f64) -> Row {
+pub fn row(road: usize, along_m: f64) -> Row {
     Row {
         road,
         distance_m: 0.0,

@@ -7,35 +7,12 @@ pub mod plane;
 #[path = "../../examples/samples/sheets.rs"]
 pub mod samples;
 
-use hemokatu::{Kind, PathEntry, Point, Road, Row, SheetBuilder};
+use hemokatu::{Kind, PathEntry, Point, Row, SheetBuilder};
+pub use samples::{road, row};
 
 pub fn sample(name: &str) -> Vec<u8> {
     let path = format!("{}/../sheets/{name}.sheet", env!("CARGO_MANIFEST_DIR"));
     std::fs::read(path).unwrap()
-}
-
-/// A road of class 3, form of way 3.
-pub fn road(id: u64, length_m: f64, source: usize, target: usize) -> Road {
-    Road {
-        id,
-        length_m,
-        source,
-        target,
-        frc: 3,
-        fow: 3,
-        ..Road::default()
-    }
-}
-
-/// On a road of 100 m.
-pub fn row(road: usize, along_m: f64) -> Row {
-    Row {
-        road,
-        distance_m: 0.0,
-        bearing_deg: 90.0,
-        along_m,
-        line_length_m: 100.0,
-    }
 }
 
 pub fn point(rows: Vec<Row>) -> Point {

@@ -6,10 +6,13 @@
 #[path = "../../examples/host/measure.rs"]
 mod measure;
 
+#[path = "../common/mod.rs"]
+mod common;
 mod map;
 
+use common::road;
 use hemokatu::{Kind, PathEntry, Row, SheetBuilder};
-use map::{at, decoded, point, road, Map};
+use map::{at, decoded, point, Map};
 use measure::{Side, CHORD_M};
 
 /// ```text

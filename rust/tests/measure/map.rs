@@ -1,7 +1,8 @@
 //! Roads drawn as lines, and sheets measured from them.
 
+use super::common::road;
 use super::measure::{self, Place, Side, CHORD_M};
-use hemokatu::{Decoder, Kind, PathEntry, Point, Road, Row, SheetBuilder};
+use hemokatu::{Decoder, Kind, PathEntry, Point, Row, SheetBuilder};
 
 /// A place so many metres east and north of where equator and prime meridian cross.
 pub fn at(east: f64, north: f64) -> Place {
@@ -114,17 +115,4 @@ pub fn decoded(sheet: &SheetBuilder) -> (Vec<u64>, f64, f64) {
         found.length_m.round(),
         found.end_offset_m.round(),
     )
-}
-
-/// A road of class and form 3.
-pub fn road(id: u64, length_m: f64, source: usize, target: usize) -> Road {
-    Road {
-        id,
-        length_m,
-        source,
-        target,
-        frc: 3,
-        fow: 3,
-        ..Road::default()
-    }
 }

@@ -1,18 +1,11 @@
 //! The binary format and base64.
 
+use super::near;
 use super::town::Dice;
 use crate::measure::Place;
 use crate::reference::{LocationPoint, Reference, Way};
 use crate::{base64, binary};
 use hemokatu::Kind;
-
-#[track_caller]
-fn near(found: f64, expected: f64, within: f64) {
-    assert!(
-        (found - expected).abs() <= within,
-        "{found} instead of {expected}"
-    );
-}
 
 #[test]
 fn base64_of_bytes() {

@@ -1,5 +1,6 @@
 //! Distances and bearings worked out by hand from the original's formulas.
 
+use super::near;
 use crate::measure::*;
 
 /// A degree of a great circle: 6,371,008.8 m times pi over 180.
@@ -13,14 +14,6 @@ fn place(lon: f64, lat: f64) -> Place {
 /// millimetre over the lengths below.
 fn metres(east: f64, north: f64) -> Place {
     place(east / DEGREE, north / DEGREE)
-}
-
-#[track_caller]
-fn near(found: f64, expected: f64, within: f64) {
-    assert!(
-        (found - expected).abs() <= within,
-        "{found} instead of {expected}"
-    );
 }
 
 #[test]

@@ -9,3 +9,11 @@ mod round_trip;
 mod rows;
 mod town;
 mod within;
+
+#[track_caller]
+fn near(found: f64, expected: f64, within: f64) {
+    assert!(
+        (found - expected).abs() <= within,
+        "{found} instead of {expected}"
+    );
+}

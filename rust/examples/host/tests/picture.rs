@@ -105,3 +105,43 @@ fn without_a_path() {
     assert_xml(&svg);
     assert!(svg.contains("Reference of kind circle: refused 7") && !svg.contains("NaN"));
 }
+
+/// docs/host.svg is what the command beside it in docs/MEASURE.md draws.
+#[test]
+fn the_picture_of_the_docs() {
+    let docs = concat!(env!("CARGO_MANIFEST_DIR"), "/../docs");
+    let page = std::fs::read_to_string(format!("{docs}/MEASURE.md")).unwrap();
+    let command = page
+        .lines()
+        .find_map(|line| line.trim_start().strip_prefix("cargo run "))
+        .expect("a command");
+    let (_, words) = command.split_once(" -- ").expect("the host's own words");
+    let file = std::env::temp_dir().join(format!("hemokatu_host_{}.svg", std::process::id()));
+    let words = words.split(' ').chain(["--svg", file.to_str().unwrap()]);
+    let ended = crate::run(words.map(str::to_string), &mut String::new());
+    let drawn = std::fs::read_to_string(&file);
+    let _ = std::fs::remove_file(&file);
+    assert_eq!(ended, Ok(true));
+    let kept = std::fs::read_to_string(format!("{docs}/host.svg")).unwrap();
+    assert!(drawn.unwrap() == kept, "docs/host.svg is an older picture");
+}
+
+/// With nothing matched and a close look, the points fill the picture.
+#[test]
+fn the_points_alone() {
+    let town = town();
+    let host = Measurer::new(&town);
+    let reference = crate::read("CwRbWyNG9RpsCQCb/jsbtAT/6/+jK1lE").expect("a line");
+    let of = |zoom| {
+        let picture = Picture {
+            host: &host,
+            reference: &reference,
+            base64: "",
+            located: None,
+            result: "refused 9".to_string(),
+            zoom,
+        };
+        picture.draw()
+    };
+    assert!(of(true).contains(">100 m</text>") && of(false).contains(">10000 m</text>"));
+}
