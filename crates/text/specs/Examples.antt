@@ -8,10 +8,7 @@ use Rattle.model.specs.Call.{Decoded, decode, refused}
 use Rattle.model.specs.Build.{point, row}
 use Rattle.model.specs.Marked.{lent, two-points, last-point}
 use Rattle.model.specs.Edges.{three-roads, to-node}
-use Rattle.text.specs.Text.{ascii, decimal, bits-of, text, large}
-
-abbrev pub text-of : Decoded → List ℕ
-text-of d = text (d .answer) (d .lists)
+use Rattle.text.specs.Text.{ascii, decimal, bits-of, text-of, large}
 
 -- from 25 of the first road to 40 of the last
 abbrev pub over-three-unlike : List ℕ

@@ -68,6 +68,9 @@ unfoldable pub text : Answer → Lists → List ℕ
 text (refused number a b) l = refusal-line number a b
 text (matched m) l = path-line m ++ road-lines (m .count) (l .ids) (l .lengths) ++ last-lines m
 
+abbrev pub text-of : Decoded → List ℕ
+text-of d = text (d .answer) (d .lists)
+
 -- the text of a sheet that is too long for the program
 unfoldable pub large : List ℕ
 large = line "large" []
