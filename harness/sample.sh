@@ -1,5 +1,5 @@
 #!/bin/sh
-# Makes the stored cases of crate replay anew: sample/changes.txt and classes.txt, and from them the files of ../crates/replay/data.
+# Makes the stored cases of crate replay anew: sample/changes.txt and classes.txt, and from them the files of ../crates/replay/data; and wrong.bin there.
 # Chosen are of the first 100,000 well-formed and 200,000 damaged seeds, always the smallest sheets first:
 # for each change of mutants/list.txt the first three sheets that notice it; of every class of well-formed sheets the first, of damaged ones the first two. S1 to S4 come with the classes.
 # Needs cargo alone, and some ten minutes.
@@ -46,3 +46,4 @@ choose() {
 for list in changes classes; do
     "$sample" write sample/$list.txt ../crates/replay/data/$list.bin && "$sample" count ../crates/replay/data/$list.bin
 done
+"$sample" wrong ../sheets ../crates/replay/data/wrong.bin

@@ -5,11 +5,16 @@ use crate::record::Expected;
 use answers::Answer;
 use answers::Match;
 use fields::u64_at;
+ghost use mathlib.Core.Path.{_≡_};
+ghost use mathlib.Core.Bool.{true};
 ghost use Prim.Native.Nat.{_+_, _*_, _≤_, _<_};
 ghost use lib.ListN.{length};
+ghost use Rattle.replay.specs.Agreeing.{behind, word-at, Has-bits, Ids-agree, Lengths-agree, Lists-agree};
 
 // Whether x has these bits. The bits of a NaN are unknown, so it never has.
-fn has_bits(x: f64, bits: u64) -> bool {
+fn has_bits(x: f64, bits: u64) -> bool
+    ensures { λ r. ⌜ (r ≡ true → Has-bits x bits) ⌝ }
+{
     if x == x {
         f64::to_bits(x) == bits
     } else {
@@ -48,6 +53,7 @@ pub fn answer_agrees(answer: Answer, file: &[u8], e: Expected) -> bool
 // What a list holds at entry i: word 0 or 1 of road i, the id or the length, or `rest` behind the path.
 fn word_at(file: &[u8], e: Expected, i: usize, word: usize, rest: u64) -> u64
     requires { ⌜ (e .place + 56 + 16 * e .roads ≤ length (now file)) × (word ≤ 1) ⌝ }
+    ensures { λ r. ⌜ r ≡ word-at (now (file .entry)) e i word rest ⌝ }
 {
     let at = e.place;
     if i < e.roads {
@@ -57,10 +63,18 @@ fn word_at(file: &[u8], e: Expected, i: usize, word: usize, rest: u64) -> u64
     }
 }
 
+// What stands behind the path, or in lists that stay untouched.
+fn behind(e: Expected, old: u64) -> u64
+    ensures { λ r. ⌜ r ≡ behind e old ⌝ }
+{
+    if e.untouched == 1 { old } else { 0 }
+}
+
 fn ids_agree(ids: &[u64], file: &[u8], e: Expected) -> bool
     requires { ⌜ e .place + 56 + 16 * e .roads ≤ length (now file) ⌝ }
+    ensures { λ r. ⌜ (r ≡ true → Ids-agree (now (ids .entry)) (now (file .entry)) e) ⌝ }
 {
-    let rest = if e.untouched == 1 { ID } else { 0 };
+    let rest = behind(e, ID);
     let mut i = 0;
     while i < ids.len() {
         if ids[i] != word_at(file, e, i, 0, rest) {
@@ -73,18 +87,15 @@ fn ids_agree(ids: &[u64], file: &[u8], e: Expected) -> bool
 
 fn lengths_agree(lengths: &[f64], file: &[u8], e: Expected) -> bool
     requires { ⌜ e .place + 56 + 16 * e .roads ≤ length (now file) ⌝ }
+    ensures { λ r. ⌜ (r ≡ true → Lengths-agree (now (lengths .entry)) (now (file .entry)) e) ⌝ }
 {
-    let rest = if e.untouched == 1 {
-        f64::to_bits(LENGTH)
-    } else {
-        0
-    };
-    let mut i = 0;
-    while i < lengths.len() {
-        if !has_bits(lengths[i], word_at(file, e, i, 1, rest)) {
+    let rest = behind(e, f64::to_bits(LENGTH));
+    let mut j = 0;
+    while j < lengths.len() {
+        if !has_bits(lengths[j], word_at(file, e, j, 1, rest)) {
             return false;
         }
-        i += 1;
+        j += 1;
     }
     true
 }
@@ -92,10 +103,14 @@ fn lengths_agree(lengths: &[f64], file: &[u8], e: Expected) -> bool
 // Both lists, over their whole length. The path must lie within them.
 pub fn lists_agree(ids: &[u64], lengths: &[f64], file: &[u8], e: Expected) -> bool
     requires { ⌜ e .place + 56 + 16 * e .roads ≤ length (now file) ⌝ }
+    ensures { λ r. ⌜ (r ≡ true → Lists-agree (now (ids .entry)) (now (lengths .entry)) (now (file .entry)) e) ⌝ }
 {
     let roads = e.roads;
     if ids.len() < roads || lengths.len() < roads {
         return false;
     }
-    ids_agree(ids, file, e) && lengths_agree(lengths, file, e)
+    if !ids_agree(ids, file, e) {
+        return false;
+    }
+    lengths_agree(lengths, file, e)
 }

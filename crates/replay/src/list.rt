@@ -11,6 +11,9 @@ use crate::record::sizes_fit;
 use fields::count_at;
 ghost use Prim.Native.Nat.{_+_, _-_, _*_, _≤_};
 ghost use lib.ListN.{length};
+ghost use mathlib.Core.Path.{_≡_};
+ghost use mathlib.Core.Bool.{true};
+ghost use Rattle.replay.specs.Agreeing.{Lists-agree};
 
 // The cases that were run, and how many of them differ.
 pub struct Tally {
@@ -39,9 +42,13 @@ fn run(
     lengths: &mut [f64],
 ) -> bool
     requires { ⌜ (at + 56 ≤ length (now file)) × (e .place + 56 + 16 * e .roads ≤ length (now file)) ⌝ }
+    ensures { λ r. ⌜ (r ≡ true → Lists-agree (now (ids .exit)) (now (lengths .exit)) (now (file .entry)) e) ⌝ }
 {
     let answer = call(file, at, sheet, ids, lengths);
-    answer_agrees(answer, file, e) && lists_agree(ids, lengths, file, e)
+    if !answer_agrees(answer, file, e) {
+        return false;
+    }
+    lists_agree(ids, lengths, file, e)
 }
 
 // Whether the case of the record at `at` gives what it expects. A record that points out of the file or asks for too much does not.
@@ -99,6 +106,26 @@ pub fn replay(file: &[u8]) -> Tally {
     let mut i = 0;
     while i < replayed {
         differ += difference(file, i);
+        i += 1;
+    }
+    Tally { replayed, differ }
+}
+
+// 1 where the case with number i differs from what it expects.
+fn noticed(file: &[u8], i: usize) -> usize
+    requires { ⌜ 4 + 56 * i + 56 ≤ length (now file) ⌝ }
+    ensures { λ r. ⌜ r ≤ 1 ⌝ }
+{
+    if agrees(file, 4 + 56 * i) { 0 } else { 1 }
+}
+
+// Runs cases that expect something wrong.
+pub fn notice(file: &[u8]) -> Tally {
+    let replayed = listed(file);
+    let mut differ = 0;
+    let mut i = 0;
+    while i < replayed {
+        differ += noticed(file, i);
         i += 1;
     }
     Tally { replayed, differ }

@@ -7,6 +7,7 @@ pub mod classes;
 pub mod endless;
 pub mod judge;
 pub mod stored;
+pub mod wrong;
 
 pub use answer::{Answer, Match, Outcome};
 pub use call::{call, lend_reference, Decoded, Original};

@@ -7,7 +7,10 @@ use sheets::Areas;
 pub const MOST_ENTRIES: usize = 1024;
 
 /// The bytes of a record.
-const RECORD: usize = 56;
+pub const RECORD: usize = 56;
+
+/// Where a record says that the lists stay untouched.
+pub const UNTOUCHED: usize = 54;
 
 #[derive(Debug, Clone, PartialEq)]
 pub struct Stored {
@@ -106,7 +109,7 @@ fn case_at(file: &[u8], at: usize) -> Stored {
         areas: Areas(std::array::from_fn(|i| u16_at(file, at + 28 + 2 * i))),
         expected: expected_at(file, at),
     };
-    let untouched = u16_at(file, at + 54);
+    let untouched = u16_at(file, at + UNTOUCHED);
     assert_eq!(untouched, case.expected.untouched() as usize);
     case
 }

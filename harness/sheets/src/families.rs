@@ -9,6 +9,7 @@ mod general;
 mod grid;
 mod kept;
 mod limits;
+mod misled;
 mod outright;
 mod parallel;
 mod streets;
@@ -60,6 +61,11 @@ pub fn full_size(r: &mut Random) -> (&'static str, Sheet) {
 /// About as large as what an editor has at his desk.
 pub fn desk(r: &mut Random) -> Sheet {
     streets::desk(r)
+}
+
+/// Small, but with searches that use up the heap of `roadlist`, or nearly.
+pub fn misled(r: &mut Random) -> Sheet {
+    misled::misled(r)
 }
 
 /// Searches over all of a full-size sheet.

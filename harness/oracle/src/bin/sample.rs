@@ -2,6 +2,7 @@
 //!
 //! sample list KIND COUNT: the cases of seeds 1 to COUNT that `replay` has areas for, smallest sheets first; of damaged ones only those that are refused 1 to 6. A line is KIND SEED, then its classes behind tabs.
 //! sample write LIST FILE: the cases of a list's lines, with the oracle's answers. A line may also be `sheet PATH`: with the areas of `roadlist`.
+//! sample wrong SHEETS FILE: cases that expect one thing wrong each, from three sheets of the folder SHEETS.
 //! sample marks FILE MOST [FROM]: the numbers of the first MOST cases of a file, from number FROM on, that this oracle answers otherwise or without an end.
 //! sample count FILE: the cases of a file by their answers.
 
@@ -9,6 +10,7 @@ use oracle::cases::{case, Kind};
 use oracle::classes::classes;
 use oracle::endless;
 use oracle::stored::{read, write, Stored};
+use oracle::wrong::wrong;
 use sheets::Areas;
 use std::os::unix::process::CommandExt;
 use std::process::Command;
@@ -20,10 +22,11 @@ fn main() {
     match args[..] {
         ["list", kind, count] => list(kind, number(count) as u64),
         ["write", list, file] => write_list(list, file),
+        ["wrong", sheets, file] => write_wrong(sheets, file),
         ["marks", file, most] => marks(file, number(most), 0),
         ["marks", file, most, from] => marks(file, number(most), number(from)),
         ["count", file] => count(file),
-        _ => panic!("sample list, write, marks or count"),
+        _ => panic!("sample list, write, wrong, marks or count"),
     }
 }
 
@@ -62,6 +65,14 @@ fn write_list(list: &str, path: &str) {
     assert_eq!(unfit, None, "a case that replay has no areas for");
     let file = write(&cases);
     assert!(read(&file) == cases, "what was written reads otherwise");
+    std::fs::write(path, file).expect("a place to write");
+}
+
+fn write_wrong(sheets: &str, path: &str) {
+    let [matched, zeroed, untouched] =
+        ["snapped", "s2", "refused_4"].map(|name| named(&format!("sheet {sheets}/{name}.sheet")));
+    let (names, file) = wrong(&matched, &zeroed, &untouched);
+    println!("{} wrong: {}", names.len(), names.join(", "));
     std::fs::write(path, file).expect("a place to write");
 }
 

@@ -1,5 +1,6 @@
-use borrow.Author.Needs.{needs}
 use Rattle.fields.proofs.NoNan.{itself-no-nan}
+use borrow.Author.Tests.{eqb-true}
+use mathlib.Core.Bool.{false≢true}
 use Rattle.replay.proofs.compare.has_bits.Statement.{statement}
 use Rattle.replay.proofs.compare.has_bits.Tie as tie
 
@@ -7,10 +8,10 @@ float-to-bits-result : tie.Need-float-to-bits-result
 float-to-bits-result c = itself-no-nan (c .before .args .x) (c .if1 .taken)
 
 returns : tie.Need-returns
-returns c = search needs
+returns c = λ e. record { number = c .if1 .taken; is = eqb-true _ (c .before .args .bits) e }
 
 returns-2 : tie.Need-returns-2
-returns-2 c = search needs
+returns-2 c = λ e. absurd (false≢true e)
 
 pub has-bits-spec : {M : Type 1} → statement M
 has-bits-spec = tie.close (tie.spec float-to-bits-result returns returns-2)
