@@ -1,0 +1,6 @@
+pub mod ExamplesProof
+pub mod Started
+pub mod Charging
+pub mod Sums
+pub mod Orders
+pub mod Proved
