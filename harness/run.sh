@@ -1,5 +1,5 @@
 #!/bin/sh
-# The whole comparison: run.sh N [SEED] compares N well-formed sheets, N damaged ones, N/50 of full size and N/10 pairs for demand 3; and the stored cases of crate replay.
+# The whole comparison: run.sh N [SEED] compares N well-formed sheets, N damaged ones, N/50 of full size and N/10 pairs for demand 3; charges of 100 N roads; and the stored cases of crate replay.
 # Needs rt and cargo. HEMOKATU_LIB may name a folder with libhemokatu.a; else rt builds it.
 set -e
 count=${1:?run.sh N [SEED]}
@@ -19,3 +19,4 @@ done
 "$programs/compare" damaged "$count" "$seed"
 "$programs/compare" full $((count / 50)) "$seed"
 "$programs/compare" pairs $((count / 10)) "$seed"
+"$programs/charge" $((count * 100)) "$seed"
