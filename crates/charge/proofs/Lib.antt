@@ -1,5 +1,6 @@
 pub mod ExamplesProof
 pub mod Started
+pub mod SheetRange
 pub mod Charging
 pub mod Sums
 pub mod Orders
