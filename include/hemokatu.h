@@ -184,6 +184,25 @@ typedef struct {
     double coverage;       /* the metres covered of it */
 } HemokatuAnswered;
 
+/* The limits of a charge. */
+enum hemokatu_tariff {
+    HEMOKATU_CLASSES = 8,
+    HEMOKATU_MOST_PRICE = 1000000,
+    HEMOKATU_MOST_PATH = 300000 /* roads of a path */
+};
+
+/* Cents for each started metre on a road of each class, 0 to 7; each up to HEMOKATU_MOST_PRICE. */
+typedef struct {
+    uint32_t cents[HEMOKATU_CLASSES];
+} HemokatuTariff;
+
+/* What hemokatu_charge says: 0, the total in cents and the amount of each class, which add up to it; or a refusal's number, and zeros. */
+typedef struct {
+    size_t number; /* 0, HEMOKATU_COUNTS or HEMOKATU_VALUE; a and b of these are 0 and not told */
+    uint64_t total;
+    uint64_t amounts[HEMOKATU_CLASSES];
+} HemokatuCharged;
+
 /* The version of the library, as HEMOKATU_VERSION is the header's. */
 uint32_t hemokatu_version(void);
 
@@ -211,6 +230,15 @@ HemokatuAnswered hemokatu_decode(
     double *coverage, size_t coverage_len,         /* and the metres covered of each */
     uint64_t *ids, size_t ids_len,                 /* answer list: the ids of the path's roads */
     double *lengths, size_t lengths_len            /* answer list: their lengths in metres */
+);
+
+/* What a path costs: each road its class's price for each metre it starts, so its whole length rounded up to the metre.
+ * Refused with HEMOKATU_COUNTS: lists of unequal length, or of more than HEMOKATU_MOST_PATH entries. Then with HEMOKATU_VALUE:
+ * a price above its limit, a class above HEMOKATU_MOST_CLASS, or a length that has its sign bit set or is above HEMOKATU_MOST_F64. */
+HemokatuCharged hemokatu_charge(
+    HemokatuTariff tariff,
+    const uint8_t *classes, size_t classes_len, /* the class of each road, only read */
+    const double *lengths, size_t lengths_len   /* its length in metres, only read */
 );
 
 #ifdef __cplusplus

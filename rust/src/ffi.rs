@@ -30,6 +30,18 @@ pub struct Answered {
     pub coverage: f64,
 }
 
+#[repr(C)]
+pub struct Tariff {
+    pub cents: [u32; 8],
+}
+
+#[repr(C)]
+pub struct Charged {
+    pub number: usize,
+    pub total: u64,
+    pub amounts: [u64; 8],
+}
+
 extern "C" {
     fn hemokatu_version() -> u32;
 
@@ -61,6 +73,14 @@ extern "C" {
         lengths: *mut f64,
         lengths_len: usize,
     ) -> Answered;
+
+    fn hemokatu_charge(
+        tariff: Tariff,
+        classes: *const u8,
+        classes_len: usize,
+        lengths: *const f64,
+        lengths_len: usize,
+    ) -> Charged;
 }
 
 pub fn version() -> u32 {
@@ -119,6 +139,20 @@ pub fn decode(sheet: &[u8], lent: Lent) -> Answered {
             lent.ids.len(),
             lent.lengths.as_mut_ptr(),
             lent.lengths.len(),
+        )
+    }
+}
+
+pub fn charge(tariff: Tariff, classes: &[u8], lengths: &[f64]) -> Charged {
+    // SAFETY: each pointer and the length beside it are of one slice, which is only read. The call accepts every content
+    // and every length.
+    unsafe {
+        hemokatu_charge(
+            tariff,
+            classes.as_ptr(),
+            classes.len(),
+            lengths.as_ptr(),
+            lengths.len(),
         )
     }
 }

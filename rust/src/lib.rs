@@ -2,7 +2,7 @@
 //!
 //! A host measures a reference against its roads and hands everything over as one sheet of bytes. [`SheetBuilder`]
 //! lays a sheet out from its parts, [`Decoder`] answers it with a [`Match`] or a [`Refusal`]. A [`Network`] is laid out
-//! once for many sheets; [`fields`] goes over what stands on one.
+//! once for many sheets; [`fields`] goes over what stands on one. A [`Tariff`] says what a path costs.
 //!
 //! ```
 //! use hemokatu::{Decoder, Refusal};
@@ -32,6 +32,7 @@ mod answer;
 mod areas;
 mod build_error;
 mod builder;
+mod charge;
 mod decoder;
 #[allow(unsafe_code)]
 mod ffi;
@@ -47,6 +48,7 @@ mod writer;
 pub use answer::{list_text, Match};
 pub use build_error::{BuildError, Distances};
 pub use builder::SheetBuilder;
+pub use charge::{Charge, ChargeRefusal, RoadOnPath, Tariff};
 pub use decoder::{judge, Decoder, Sizes};
 pub use field::{Field, Part, Range, Value};
 pub use metrics::Metrics;

@@ -1,10 +1,13 @@
 // The calls for hosts in C or Rust. Built by `rt staticlib hemokatu`.
 use answers::Answer;
+use charge::Charged;
+use charge::Tariff;
 use model::Judged;
 ghost use mathlib.Core.Path.{_≡_};
 ghost use lib.ListN.{length};
 ghost use Rattle.model.specs.Judge.{judged};
 ghost use Rattle.model.specs.Call.{decode};
+ghost use Rattle.charge.specs.Roads.{charge};
 ghost use Rattle.answers.specs.Room.{lists, answer-of};
 ghost use Rattle.decoder.specs.Opened.{lent};
 ghost use Rattle.hemokatu.specs.Face.{version, judgement-of, sizes-of, answered-of, Answers};
@@ -171,4 +174,12 @@ pub extern "C" fn hemokatu_decode(
         lengths,
     );
     face(found)
+}
+
+// What a path costs at a tariff: the class and the length in metres of each road, in two lists that are only read.
+#[no_mangle]
+pub extern "C" fn hemokatu_charge(tariff: Tariff, classes: &[u8], lengths: &[f64]) -> Charged
+    ensures { λ r. ⌜ r ≡ charge tariff (now (classes .entry)) (now (lengths .entry)) ⌝ }
+{
+    charge::charge(tariff, classes, lengths)
 }

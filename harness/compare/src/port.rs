@@ -148,3 +148,20 @@ impl Port {
         }
     }
 }
+
+/// What the port says of a path.
+#[derive(Debug, PartialEq, Eq)]
+pub struct Charged {
+    pub number: usize,
+    pub total: u64,
+    pub amounts: [u64; 8],
+}
+
+pub fn charge(cents: [u32; 8], classes: &[u8], lengths: &[f64]) -> Charged {
+    let said = ffi::charge(ffi::Tariff { cents }, classes, lengths);
+    Charged {
+        number: said.number,
+        total: said.total,
+        amounts: said.amounts,
+    }
+}
