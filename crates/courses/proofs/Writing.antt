@@ -10,7 +10,7 @@ use borrow.Author.Tests.{eq-eqb, ne-eqb}
 use lib.ListN.{length, getD, set, take, drop, length-drop}
 use lib.Seq.{take-all, take-suc, take-suc-set, getD-drop}
 use Rattle.model.specs.Lists.{last, maybe}
-use Rattle.courses.specs.Left.{fresh}
+use Rattle.courses.specs.Left.{unwritten}
 
 -- ---- the last one written
 
@@ -20,23 +20,23 @@ last-none ids n e = rw e
 
 -- ---- the first road, skipped or not
 
-pub skip-empty : (o : Option ℕ) (xs : List ℕ) → length xs ≡ 0 → xs ≡ fresh o xs
-unfolding fresh
+pub skip-empty : (o : Option ℕ) (xs : List ℕ) → length xs ≡ 0 → xs ≡ unwritten o xs
+unfolding unwritten
 skip-empty o [] e = refl
 skip-empty o (x ∷ xs) e = absurd (omega arith)
 
-pub skip-none : (xs : List ℕ) → xs ≡ fresh none xs
-unfolding fresh maybe
+pub skip-none : (xs : List ℕ) → xs ≡ unwritten none xs
+unfolding unwritten maybe
 skip-none [] = refl
 skip-none (x ∷ xs) = refl
 
-pub skip-same : (k : ℕ) (xs : List ℕ) → 0 < length xs → k ≡ getD xs 0 0 → drop 1 xs ≡ fresh (some k) xs
-unfolding fresh maybe
+pub skip-same : (k : ℕ) (xs : List ℕ) → 0 < length xs → k ≡ getD xs 0 0 → drop 1 xs ≡ unwritten (some k) xs
+unfolding unwritten maybe
 skip-same k [] h e = absurd (omega arith)
 skip-same k (x ∷ xs) h e = rw (eq-eqb k x e)
 
-pub skip-other : (k : ℕ) (xs : List ℕ) → 0 < length xs → (k ≡ getD xs 0 0 → ⊥) → xs ≡ fresh (some k) xs
-unfolding fresh maybe
+pub skip-other : (k : ℕ) (xs : List ℕ) → 0 < length xs → (k ≡ getD xs 0 0 → ⊥) → xs ≡ unwritten (some k) xs
+unfolding unwritten maybe
 skip-other k [] h e = absurd (omega arith)
 skip-other k (x ∷ xs) h e = rw (ne-eqb k x e)
 

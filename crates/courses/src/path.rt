@@ -3,11 +3,11 @@ ghost use mathlib.Core.Path.{_≡_};
 ghost use Prim.Native.Nat.{_+_, _≤_, _<_};
 ghost use lib.ListN.{length, getD, take, drop};
 ghost use Rattle.model.specs.Lists.{last};
-ghost use Rattle.rules.specs.Code.{part-of};
-ghost use Rattle.courses.specs.Left.{size-of, numbers-of, last-of, fresh};
+ghost use Rattle.rules.specs.Code.{terminal-of};
+ghost use Rattle.courses.specs.Left.{size-of, numbers-of, last-of, unwritten};
 use crate::Last;
-use rules::Part;
-use rules::Route;
+use rules::PathResult;
+use rules::Terminal;
 
 // The last of the first n numbers.
 pub fn last_written(ids: &[u64], n: usize) -> Last
@@ -23,14 +23,14 @@ pub fn last_written(ids: &[u64], n: usize) -> Last
 }
 
 // 1 for a terminal road that is kept.
-pub fn terminals(p: Part) -> usize
-    ensures { λ k. ⌜ (k ≡ length (part-of p)) × (k ≤ 1) ⌝ }
+pub fn terminals(p: Terminal) -> usize
+    ensures { λ k. ⌜ (k ≡ length (terminal-of p)) × (k ≤ 1) ⌝ }
 {
     if p.kept { 1 } else { 0 }
 }
 
 // How many roads a route has, where that many fit.
-pub fn count_roads(r: Route) -> usize
+pub fn count_roads(r: PathResult) -> usize
     requires { ⌜ r .count + 2 ≤ 18446744073709551615 ⌝ }
     ensures { λ m. ⌜ (m ≡ size-of r) × (m ≤ r .count + 2) ⌝ }
 {
@@ -40,7 +40,7 @@ pub fn count_roads(r: Route) -> usize
 }
 
 // The number of road j of a route.
-fn number_at(r: Route, area: &[usize], j: usize) -> usize
+fn number_at(r: PathResult, area: &[usize], j: usize) -> usize
     requires { ⌜ (r .count ≤ length (now area)) × (j < size-of r) ⌝ }
     ensures { λ k. ⌜ k ≡ getD (numbers-of r (now (area .entry))) j 0 ⌝ }
 {
@@ -56,9 +56,9 @@ fn number_at(r: Route, area: &[usize], j: usize) -> usize
 }
 
 // 1 where the first of a route's m roads is the last one written.
-fn skip_of(last: Last, r: Route, area: &[usize], m: usize) -> usize
+fn skip_of(last: Last, r: PathResult, area: &[usize], m: usize) -> usize
     requires { ⌜ (r .count ≤ length (now area)) × (m ≡ size-of r) ⌝ }
-    ensures { λ k. ⌜ (k ≤ m) × (drop k (numbers-of r (now (area .entry))) ≡ fresh (last-of last) (numbers-of r (now (area .entry)))) ⌝ }
+    ensures { λ k. ⌜ (k ≤ m) × (drop k (numbers-of r (now (area .entry))) ≡ unwritten (last-of last) (numbers-of r (now (area .entry)))) ⌝ }
 {
     if m == 0 {
         return 0;
@@ -71,9 +71,9 @@ fn skip_of(last: Last, r: Route, area: &[usize], m: usize) -> usize
 }
 
 // The roads of a route to the front of `out`, but for a first one that is the last written: how many.
-pub fn write_leg(last: Last, r: Route, area: &[usize], out: &mut [u64]) -> usize
+pub fn write_leg(last: Last, r: PathResult, area: &[usize], out: &mut [u64]) -> usize
     requires { ⌜ (r .count ≤ length (now area)) × (r .count + 2 ≤ length (now out)) ⌝ }
-    ensures { λ k. ⌜ (k ≤ r .count + 2) × (take k (now (out .exit)) ≡ fresh (last-of last) (numbers-of r (now (area .entry)))) ⌝ }
+    ensures { λ k. ⌜ (k ≤ r .count + 2) × (take k (now (out .exit)) ≡ unwritten (last-of last) (numbers-of r (now (area .entry)))) ⌝ }
 {
     let m = count_roads(r);
     let skip = skip_of(last, r, area, m);

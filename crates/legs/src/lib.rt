@@ -5,10 +5,10 @@ pub mod tries;
 use candidates::find::Candidates;
 use model::Counts;
 use model::Limits;
+use plans::PairTurn;
 use plans::Phase;
-use plans::State;
 use rules::Best;
-use rules::Route;
+use rules::PathResult;
 use rules::routes;
 use rules::same_edge;
 ghost use mathlib.Core.Path.{_≡_};
@@ -17,41 +17,41 @@ ghost use Prim.Native.Nat.{ℕ, _<_};
 ghost use Rattle.model.specs.declared.Road.{Road};
 ghost use Rattle.model.specs.Judge.{WellFormed};
 ghost use Rattle.model.specs.Sheet.{sheet-of, road-at};
-ghost use Rattle.model.specs.Legs.{sought, find-best-path};
-ghost use Rattle.candidates.specs.Found.{held, Ready};
+ghost use Rattle.model.specs.Legs.{leg-end, find-best-path};
+ghost use Rattle.candidates.specs.Found.{held, CandidatesReady};
 ghost use Rattle.rules.specs.Code.{best-of};
 ghost use Rattle.search.specs.Areas.{LegRoom};
-ghost use Rattle.legs.specs.Found.{seek-at, end-of, sought-of, Priced, Fits, Holds};
+ghost use Rattle.legs.specs.Found.{middle-search-at, end-after-pairs, leg-end-of, Priced, BestHeld, LegRouteHeld};
 
 // What a leg finds: its best route, whose middle is in the front of an area; no path; or the heap used up.
-pub enum Sought {
-    Best(Route),
+pub enum LegEnd {
+    Best(PathResult),
     NoPath,
     HeapFull,
 }
 
 // The best route, if there is one.
-fn best_or_none(best: Best) -> Sought
-    ensures means { λ r. ⌜ ((roads : ℕ → Road) (area : List ℕ) → sought-of roads r area ≡ sought (best-of roads best area)) ⌝ }
-    ensures holds { λ r. ⌜ ((n e : ℕ) (area : List ℕ) → Fits n e best area → Holds n e r area) ⌝ }
+fn best_or_none(best: Best) -> LegEnd
+    ensures means { λ r. ⌜ ((roads : ℕ → Road) (area : List ℕ) → leg-end-of roads r area ≡ leg-end (best-of roads best area)) ⌝ }
+    ensures holds { λ r. ⌜ ((n e : ℕ) (area : List ℕ) → BestHeld n e best area → LegRouteHeld n e r area) ⌝ }
 {
     if best.found {
-        let route = best.route;
-        return Sought::Best(route);
+        let route = best.path;
+        return LegEnd::Best(route);
     }
-    Sought::NoPath
+    LegEnd::NoPath
 }
 
 // How a leg ends, by the state after its pairs.
-fn ended(st: State) -> Sought
-    ensures means { λ r. ⌜ ((roads : ℕ → Road) (area : List ℕ) → sought-of roads r area ≡ end-of roads st area) ⌝ }
-    ensures holds { λ r. ⌜ ((n e : ℕ) (area : List ℕ) → Fits n e (st .best) area → Holds n e r area) ⌝ }
+fn after_pairs(st: PairTurn) -> LegEnd
+    ensures means { λ r. ⌜ ((roads : ℕ → Road) (area : List ℕ) → leg-end-of roads r area ≡ end-after-pairs roads st area) ⌝ }
+    ensures holds { λ r. ⌜ ((n e : ℕ) (area : List ℕ) → BestHeld n e (st .best) area → LegRouteHeld n e r area) ⌝ }
 {
     let phase = st.phase;
     let best = st.best;
     match phase {
         Phase::On => best_or_none(best),
-        Phase::Full => Sought::HeapFull,
+        Phase::Full => LegEnd::HeapFull,
     }
 }
 
@@ -69,17 +69,17 @@ pub fn find_best_path(
     best_route: &mut [usize],
     entries: &mut [f64],
     links: &mut [usize],
-) -> Sought
-    requires { ⌜ WellFormed (now s) c × Priced b × (0 < c .n) × Ready c starts × Ready c ends ⌝ }
+) -> LegEnd
+    requires { ⌜ WellFormed (now s) c × Priced b × (0 < c .n) × CandidatesReady c starts × CandidatesReady c ends ⌝ }
     requires { ⌜ LegRoom (c .n) slots (now labels) (now «came_from») (now route) (now «best_route») (now entries) (now links) ⌝ }
-    ensures means { λ r. ⌜ sought-of (road-at (sheet-of (now (s .entry)) c)) r (now («best_route» .exit))
-        ≡ find-best-path b (seek-at (sheet-of (now (s .entry)) c) slots b) (held (sheet-of (now (s .entry)) c) starts) (held (sheet-of (now (s .entry)) c) ends) ⌝ }
-    ensures holds { λ r. ⌜ Holds (c .n) (c .e) r (now («best_route» .exit)) ⌝ }
+    ensures means { λ r. ⌜ leg-end-of (road-at (sheet-of (now (s .entry)) c)) r (now («best_route» .exit))
+        ≡ find-best-path b (middle-search-at (sheet-of (now (s .entry)) c) slots b) (held (sheet-of (now (s .entry)) c) starts) (held (sheet-of (now (s .entry)) c) ends) ⌝ }
+    ensures holds { λ r. ⌜ LegRouteHeld (c .n) (c .e) r (now («best_route» .exit)) ⌝ }
 {
     let same = same_edge::try_same_edge_solution(s, c, b, starts, ends);
     if same.found {
-        let alone = routes::without_middle(same);
-        return best_or_none(alone);
+        let single = routes::without_middle(same);
+        return best_or_none(single);
     }
     let st = tries::try_pairs(
         s,
@@ -95,5 +95,5 @@ pub fn find_best_path(
         entries,
         links,
     );
-    ended(st)
+    after_pairs(st)
 }

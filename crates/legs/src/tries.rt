@@ -5,8 +5,8 @@ use candidates::find::Candidates;
 use candidates::find::MOST_TRIED;
 use model::Counts;
 use model::Limits;
+use plans::PairTurn;
 use plans::Phase;
-use plans::State;
 use plans::turns;
 use rules::Best;
 use rules::routes;
@@ -18,13 +18,13 @@ ghost use Rattle.model.specs.Lists.{sort};
 ghost use Rattle.model.specs.Judge.{WellFormed};
 ghost use Rattle.model.specs.Sheet.{sheet-of, road-at};
 ghost use Rattle.model.specs.Legs.{pair, pairs, by-sum, try-pair, try-pairs};
-ghost use Rattle.candidates.specs.Found.{at-road, held, Ready};
+ghost use Rattle.candidates.specs.Found.{at-road, held, CandidatesReady};
 ghost use Rattle.rules.specs.Code.{best-of};
 ghost use Rattle.plans.specs.Turns.{turn-of};
 ghost use Rattle.search.specs.Areas.{LegRoom};
-ghost use Rattle.legs.specs.Found.{seek-at, end-of, place-after, Priced, Fits};
+ghost use Rattle.legs.specs.Found.{middle-search-at, end-after-pairs, place-after, Priced, BestHeld};
 
-// One pair: what it asks for, the search if it asks for one, and what comes of it. The best route's middle is in the front of `best_route`.
+// One pair: its plan, the search if it needs one, and what comes of it. The best route's middle is in the front of `best_route`.
 pub fn try_pair(
     s: &[u8],
     c: Counts,
@@ -39,19 +39,19 @@ pub fn try_pair(
     best_route: &mut [usize],
     entries: &mut [f64],
     links: &mut [usize],
-) -> State
-    requires { ⌜ WellFormed (now s) c × Priced b × (start .road < c .e) × (end .road < c .e) × Fits (c .n) (c .e) best (now «best_route») ⌝ }
+) -> PairTurn
+    requires { ⌜ WellFormed (now s) c × Priced b × (start .«edge_idx» < c .e) × (end .«edge_idx» < c .e) × BestHeld (c .n) (c .e) best (now «best_route») ⌝ }
     requires { ⌜ LegRoom (c .n) slots (now labels) (now «came_from») (now route) (now «best_route») (now entries) (now links) ⌝ }
     ensures means { λ t. ⌜ turn-of (t .phase) (best-of (road-at (sheet-of (now (s .entry)) c)) (t .best) (now («best_route» .exit)))
-        ≡ try-pair b (seek-at (sheet-of (now (s .entry)) c) slots b) (best-of (road-at (sheet-of (now (s .entry)) c)) best (now («best_route» .entry))) (pair (at-road (sheet-of (now (s .entry)) c) start) (at-road (sheet-of (now (s .entry)) c) end)) ⌝ }
-    ensures fits { λ t. ⌜ Fits (c .n) (c .e) (t .best) (now («best_route» .exit)) ⌝ }
+        ≡ try-pair b (middle-search-at (sheet-of (now (s .entry)) c) slots b) (best-of (road-at (sheet-of (now (s .entry)) c)) best (now («best_route» .entry))) (pair (at-road (sheet-of (now (s .entry)) c) start) (at-road (sheet-of (now (s .entry)) c) end)) ⌝ }
+    ensures fits { λ t. ⌜ BestHeld (c .n) (c .e) (t .best) (now («best_route» .exit)) ⌝ }
 {
-    let from = start.road;
-    let to = end.road;
+    let from = start.edge_idx;
+    let to = end.edge_idx;
     let first = roads::road(s, c, from);
     let last = roads::road(s, c, to);
-    let p = turns::plan(b, start, first, end, last);
-    let a = turns::ask(p);
+    let p = turns::plan_pair(b, start, first, end, last);
+    let a = turns::search_need(p);
     let m = middle::middle(
         s,
         c,
@@ -66,7 +66,7 @@ pub fn try_pair(
         entries,
         links,
     );
-    let t = turns::settle(b, start, first, end, last, best, p, m);
+    let t = turns::finish_pair(b, start, first, end, last, best, p, m);
     middle::keep_roads(best_route, route, t.taken);
     t
 }
@@ -96,12 +96,12 @@ pub fn try_pairs(
     best_route: &mut [usize],
     entries: &mut [f64],
     links: &mut [usize],
-) -> State
-    requires { ⌜ WellFormed (now s) c × Priced b × Ready c starts × Ready c ends ⌝ }
+) -> PairTurn
+    requires { ⌜ WellFormed (now s) c × Priced b × CandidatesReady c starts × CandidatesReady c ends ⌝ }
     requires { ⌜ LegRoom (c .n) slots (now labels) (now «came_from») (now route) (now «best_route») (now entries) (now links) ⌝ }
-    ensures means { λ t. ⌜ end-of (road-at (sheet-of (now (s .entry)) c)) t (now («best_route» .exit))
-        ≡ try-pairs b (seek-at (sheet-of (now (s .entry)) c) slots b) (sort by-sum (pairs (held (sheet-of (now (s .entry)) c) starts) (held (sheet-of (now (s .entry)) c) ends))) none ⌝ }
-    ensures fits { λ t. ⌜ Fits (c .n) (c .e) (t .best) (now («best_route» .exit)) ⌝ }
+    ensures means { λ t. ⌜ end-after-pairs (road-at (sheet-of (now (s .entry)) c)) t (now («best_route» .exit))
+        ≡ try-pairs b (middle-search-at (sheet-of (now (s .entry)) c) slots b) (sort by-sum (pairs (held (sheet-of (now (s .entry)) c) starts) (held (sheet-of (now (s .entry)) c) ends))) none ⌝ }
+    ensures fits { λ t. ⌜ BestHeld (c .n) (c .e) (t .best) (now («best_route» .exit)) ⌝ }
 {
     let count = starts.count * ends.count;
     let mut by_start = [0.0; MOST_TRIED];
@@ -116,7 +116,7 @@ pub fn try_pairs(
     }
     let mut heads = [0usize; MOST_TRIED];
     let unset = routes::no_best();
-    let mut st = State {
+    let mut st = PairTurn {
         phase: Phase::On,
         best: unset,
         taken: 0,

@@ -1,11 +1,11 @@
 // One leg but for its search: what it accepts, and what it leaves.
-use crate::LegEnd;
-use crate::Segment;
-use crate::Walked;
+use crate::LegWritten;
+use crate::SegmentInfo;
+use crate::WrittenLeg;
 use courses::Last;
 use courses::coverage;
 use courses::path;
-use legs::Sought;
+use legs::LegEnd;
 use model::Counts;
 use model::Limits;
 use model::Settings;
@@ -16,10 +16,10 @@ ghost use Prim.Native.Nat.{_+_, _≤_, _<_};
 ghost use lib.ListN.{length};
 ghost use Rattle.model.specs.Judge.{WellFormed};
 ghost use Rattle.model.specs.Sheet.{sheet-of, road-at};
-ghost use Rattle.legs.specs.Found.{sought-of};
-ghost use Rattle.search.specs.Answers.{Numbers};
+ghost use Rattle.legs.specs.Found.{leg-end-of};
+ghost use Rattle.search.specs.Answers.{RoadNumbers};
 ghost use Rattle.courses.specs.Left.{last-of, coverages-at};
-ghost use Rattle.lines.specs.Legs.{leg-limits, KnownAs, Leaves};
+ghost use Rattle.lines.specs.Legs.{leg-limits, KnownAs, LegEndWritten};
 
 // What the leg from point i accepts.
 pub fn leg_limits(s: &[u8], c: Counts, set: Settings, i: usize) -> Limits
@@ -37,34 +37,34 @@ pub fn leave(
     summed: bool,
     dnp: f64,
     last: Last,
-    found: Sought,
+    found: LegEnd,
     area: &[usize],
     n0: usize,
     covered: &mut [usize],
     coverage: &mut [f64],
     out: &mut [u64],
-) -> LegEnd
-    requires { ⌜ WellFormed (now s) c × KnownAs (sheet-of (now s) c) c found (now area) × Numbers (c .e) n0 (now covered) ⌝ }
+) -> LegWritten
+    requires { ⌜ WellFormed (now s) c × KnownAs (sheet-of (now s) c) c found (now area) × RoadNumbers (c .e) n0 (now covered) ⌝ }
     requires { ⌜ (n0 + c .n + 1 ≤ length (now covered)) × (n0 + c .n + 1 ≤ length (now coverage)) × (c .n + 1 ≤ length (now out)) ⌝ }
-    ensures { λ r. ⌜ Leaves (sheet-of (now (s .entry)) c) c summed dnp (last-of last) (coverages-at (sheet-of (now (s .entry)) c) n0 (now (covered .entry)) (now (coverage .entry))) n0
-        (sought-of (road-at (sheet-of (now (s .entry)) c)) found (now (area .entry))) (now (out .exit)) (now (covered .exit)) (now (coverage .exit)) r ⌝ }
+    ensures { λ r. ⌜ LegEndWritten (sheet-of (now (s .entry)) c) c summed dnp (last-of last) (coverages-at (sheet-of (now (s .entry)) c) n0 (now (covered .entry)) (now (coverage .entry))) n0
+        (leg-end-of (road-at (sheet-of (now (s .entry)) c)) found (now (area .entry))) (now (out .exit)) (now (covered .exit)) (now (coverage .exit)) r ⌝ }
 {
     match found {
-        Sought::Best(route) => {
+        LegEnd::Best(route) => {
             let written = path::write_leg(last, route, area, out);
             let count = coverage::cover_leg(s, c, summed, route, area, covered, coverage, n0);
-            LegEnd::Walked(Walked {
+            LegWritten::Written(WrittenLeg {
                 written,
                 covered: count,
-                segment: Segment {
-                    length_m: route.total,
+                segment: SegmentInfo {
+                    length_m: route.total_length,
                     expected_m: dnp,
-                    start_offset: route.start_offset,
-                    end_offset: route.end_offset,
+                    start_offset_m: route.start_offset_m,
+                    end_offset_m: route.end_offset_m,
                 },
             })
         }
-        Sought::NoPath => LegEnd::NoPath,
-        Sought::HeapFull => LegEnd::HeapFull,
+        LegEnd::NoPath => LegWritten::NoPath,
+        LegEnd::HeapFull => LegWritten::HeapFull,
     }
 }

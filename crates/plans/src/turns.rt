@@ -6,54 +6,54 @@ ghost use Prim.Native.Nat.{ℕ};
 ghost use lib.ListN.{take};
 ghost use Rattle.model.specs.declared.Road.{Road};
 ghost use Rattle.model.specs.Numbers.{f0};
-ghost use Rattle.model.specs.Legs.{Pair, Seek, asked, over, improve, middle-of, goes-on, reached, settled};
+ghost use Rattle.model.specs.Legs.{Pair, MiddleSearch, pair-plan, scored-over, improve, middle-of, goes-on, after-search, after-pair};
 ghost use Rattle.rules.specs.Code.{pair-as, best-of};
-ghost use Rattle.search.specs.Answers.{answer};
-ghost use Rattle.plans.specs.Turns.{asked-of, by-ask, count-of, renewed, Comes};
-use crate::Ask;
+ghost use Rattle.search.specs.Answers.{search-end-of};
+ghost use Rattle.plans.specs.Turns.{pair-plan-of, by-need, road-count, renewed, TurnIs};
+use crate::PairPlan;
+use crate::PairTurn;
 use crate::Phase;
-use crate::Plan;
-use crate::State;
+use crate::SearchNeed;
 use candidates::candidate::Candidate;
 use model::Limits;
 use model::Road;
 use road_network::road_class;
 use rules::Best;
-use rules::Part;
-use rules::Route;
+use rules::PathResult;
+use rules::Terminal;
 use rules::lengths;
 use rules::routes;
-use search::Search;
+use search::SearchEnd;
 
-// What a pair asks for.
-pub fn plan(b: Limits, start: Candidate, first: Road, end: Candidate, last: Road) -> Plan
-    ensures { λ r. ⌜ ((roads : ℕ → Road) → asked-of roads r ≡ asked b (pair-as start first end last)) ⌝ }
+// The plan of a pair.
+pub fn plan_pair(b: Limits, start: Candidate, first: Road, end: Candidate, last: Road) -> PairPlan
+    ensures { λ r. ⌜ ((roads : ℕ → Road) → pair-plan-of roads r ≡ pair-plan b (pair-as start first end last)) ⌝ }
 {
     if !road_class::permits(b.constraints, first) {
-        return Plan::Nothing;
+        return PairPlan::Skip;
     }
     if !road_class::permits(b.constraints, last) {
-        return Plan::Nothing;
+        return PairPlan::Skip;
     }
     if first.number == last.number {
-        let way = routes::on_one_road(b, start, first, end, last);
-        return Plan::Alone(way);
+        let way = routes::same_edge_scored(b, start, first, end, last);
+        return PairPlan::SameEdge(way);
     }
     let bound = lengths::middle_max(b, start, first, end, last);
     if bound <= 0.0 {
-        return Plan::Nothing;
+        return PairPlan::Skip;
     }
-    Plan::Across(bound)
+    PairPlan::Search(bound)
 }
 
-// The search that a plan asks for.
-pub fn ask(p: Plan) -> Ask
-    ensures { λ r. ⌜ ((roads : ℕ → Road) (seek : Seek) (q : Pair) → by-ask (seek (q .start .road .target) (q .end .road .source)) r ≡ middle-of seek q (asked-of roads p)) ⌝ }
+// The search that a plan needs.
+pub fn search_need(p: PairPlan) -> SearchNeed
+    ensures { λ r. ⌜ ((roads : ℕ → Road) (search : MiddleSearch) (q : Pair) → by-need (search (q .start .road .target) (q .end .road .source)) r ≡ middle-of search q (pair-plan-of roads p)) ⌝ }
 {
     match p {
-        Plan::Nothing => Ask::No,
-        Plan::Alone(_) => Ask::No,
-        Plan::Across(bound) => Ask::Within(bound),
+        PairPlan::Skip => SearchNeed::None,
+        PairPlan::SameEdge(_) => SearchNeed::None,
+        PairPlan::Search(bound) => SearchNeed::Within(bound),
     }
 }
 
@@ -64,8 +64,8 @@ fn if_kept(kept: bool, offset: f64) -> f64
     if kept { offset } else { 0.0 }
 }
 
-// The route over a way of n roads with this cost, if its length fits.
-fn route_over(
+// The path over a way of n roads with this cost, if its length fits.
+fn scored_over(
     b: Limits,
     start: Candidate,
     first: Road,
@@ -74,12 +74,12 @@ fn route_over(
     cost: f64,
     n: usize,
 ) -> Best
-    ensures { λ r. ⌜ (r .route .count ≡ n) × ((roads : ℕ → Road) (area : List ℕ) → best-of roads r area ≡ over b (pair-as start first end last) cost (map roads (take n area))) ⌝ }
+    ensures { λ r. ⌜ (r .path .count ≡ n) × ((roads : ℕ → Road) (area : List ℕ) → best-of roads r area ≡ scored-over b (pair-as start first end last) cost (map roads (take n area))) ⌝ }
 {
     let start_part = lengths::end_offset(start, first);
     let end_part = lengths::start_offset(end, last);
-    let total = lengths::length_over(start, first, end, last, cost);
-    let found = lengths::fits_over(b, total);
+    let total = lengths::path_cost(start, first, end, last, cost);
+    let found = lengths::fits_path(b, total);
     let score = lengths::score_of(b, start, first, end, last, total);
     let first_stays = lengths::stays(start_part, total);
     let last_stays = lengths::stays(end_part, total);
@@ -88,37 +88,37 @@ fn route_over(
     Best {
         found,
         score,
-        route: Route {
-            total,
-            start_offset,
-            end_offset,
-            head: Part {
+        path: PathResult {
+            total_length: total,
+            start_offset_m: start_offset,
+            end_offset_m: end_offset,
+            head: Terminal {
                 kept: first_stays,
                 road: first,
-                metres: start_part,
+                coverage_m: start_part,
             },
             count: n,
-            tail: Part {
+            tail: Terminal {
                 kept: last_stays,
                 road: last,
-                metres: end_part,
+                coverage_m: end_part,
             },
         },
     }
 }
 
-// The better of the best so far and a route whose middle is in the search's area.
-fn take_better(best: Best, next: Best) -> State
-    ensures { λ r. ⌜ Comes best r (next .route .count) (λ roads old new. goes-on (improve (best-of roads best old) (best-of roads next (renewed (next .route .count) new old)))) ⌝ }
+// The better of the best so far and a path whose middle is in the search's area.
+fn take_better(best: Best, next: Best) -> PairTurn
+    ensures { λ r. ⌜ TurnIs best r (next .path .count) (λ roads old new. goes-on (improve (best-of roads best old) (best-of roads next (renewed (next .path .count) new old)))) ⌝ }
 {
     if routes::improves(best, next) {
-        return State {
+        return PairTurn {
             phase: Phase::On,
             best: next,
-            taken: next.route.count,
+            taken: next.path.count,
         };
     }
-    State {
+    PairTurn {
         phase: Phase::On,
         best,
         taken: 0,
@@ -126,28 +126,28 @@ fn take_better(best: Best, next: Best) -> State
 }
 
 // What a search leaves of the best so far, by what it found between the two roads.
-fn reach(
+fn after_search(
     b: Limits,
     start: Candidate,
     first: Road,
     end: Candidate,
     last: Road,
     best: Best,
-    m: Search,
-) -> State
-    ensures { λ r. ⌜ Comes best r (count-of m) (λ roads old new. reached b (pair-as start first end last) (best-of roads best old) (answer roads m new)) ⌝ }
+    m: SearchEnd,
+) -> PairTurn
+    ensures { λ r. ⌜ TurnIs best r (road-count m) (λ roads old new. after-search b (pair-as start first end last) (best-of roads best old) (search-end-of roads m new)) ⌝ }
 {
     match m {
-        Search::Found(cost, n) => {
-            let next = route_over(b, start, first, end, last, cost, n);
+        SearchEnd::Found(cost, n) => {
+            let next = scored_over(b, start, first, end, last, cost, n);
             take_better(best, next)
         }
-        Search::Nothing => State {
+        SearchEnd::Nothing => PairTurn {
             phase: Phase::On,
             best,
             taken: 0,
         },
-        Search::Full => State {
+        SearchEnd::Full => PairTurn {
             phase: Phase::Full,
             best,
             taken: 0,
@@ -156,28 +156,28 @@ fn reach(
 }
 
 // What a pair leaves of the best so far, by its plan and by what lies between its roads.
-pub fn settle(
+pub fn finish_pair(
     b: Limits,
     start: Candidate,
     first: Road,
     end: Candidate,
     last: Road,
     best: Best,
-    p: Plan,
-    m: Search,
-) -> State
-    ensures { λ r. ⌜ Comes best r (count-of m) (λ roads old new. settled b (pair-as start first end last) (best-of roads best old) (asked-of roads p) (answer roads m new)) ⌝ }
+    p: PairPlan,
+    m: SearchEnd,
+) -> PairTurn
+    ensures { λ r. ⌜ TurnIs best r (road-count m) (λ roads old new. after-pair b (pair-as start first end last) (best-of roads best old) (pair-plan-of roads p) (search-end-of roads m new)) ⌝ }
 {
     match p {
-        Plan::Nothing => State {
+        PairPlan::Skip => PairTurn {
             phase: Phase::On,
             best,
             taken: 0,
         },
-        Plan::Alone(way) => {
+        PairPlan::SameEdge(way) => {
             let next = routes::without_middle(way);
             take_better(best, next)
         }
-        Plan::Across(_) => reach(b, start, first, end, last, best, m),
+        PairPlan::Search(_) => after_search(b, start, first, end, last, best, m),
     }
 }

@@ -1,4 +1,4 @@
--- The best route so far, case by case.
+-- The best path so far, case by case.
 use mathlib.Core.Path.{_≡_, refl, sym, ap}
 use mathlib.Core.Bool.{true, false, cond}
 use mathlib.Core.Option.{Option, none, some}
@@ -11,11 +11,11 @@ use Rattle.model.specs.Numbers.{_<ᶠ_, greatest-float}
 use Rattle.model.specs.Lists.{when}
 use Rattle.model.specs.Legs.{Scored, whole, best-score, improve, first-or-better}
 use Rattle.rules.specs.declared.Best.{Best}
-use Rattle.rules.specs.Code.{part-of, path-of, best-of}
+use Rattle.rules.specs.Code.{terminal-of, path-of, best-of}
 
 module _ (roads : ℕ → Road) (b : Best) (area : List ℕ) where
   abbrev pub as-scored : Scored
-  as-scored = record { route = path-of roads (b .route) area; score = b .score }
+  as-scored = record { path = path-of roads (b .path) area; score = b .score }
 
   pub best-none : b .found ≡ false → best-of roads b area ≡ none
   unfolding best-of when
@@ -66,8 +66,8 @@ module _ (roads : ℕ → Road) (best next : Best) (area : List ℕ) where
   pub is-later : best .found ≡ true → improve (best-of roads best area) (best-of roads next area) ≡ first-or-better (best-of roads best area) (best-of roads next area)
   is-later e = rw (best-some roads best area e) (then-better (as-scored roads best area) (best-of roads next area))
 
--- the route on its terminal roads is the route with an empty area
+-- the path on its terminal roads is the path with an empty area
 pub no-middle : (b : Best) (roads : ℕ → Road) (area : List ℕ)
-    → best-of roads (record { found = b .found; score = b .score; route = record { total = b .route .total; «start_offset» = b .route .«start_offset»; «end_offset» = b .route .«end_offset»; head = b .route .head; count = 0; tail = b .route .tail } }) area ≡ best-of roads b []
+    → best-of roads (record { found = b .found; score = b .score; path = record { «total_length» = b .path .«total_length»; «start_offset_m» = b .path .«start_offset_m»; «end_offset_m» = b .path .«end_offset_m»; head = b .path .head; count = 0; tail = b .path .tail } }) area ≡ best-of roads b []
 unfolding best-of
-no-middle b roads area = ap (λ (l : List ℕ). when (b .found) record { route = record { coverages = part-of (b .route .head) ++ map whole (map roads l) ++ part-of (b .route .tail); total = b .route .total; start-offset = b .route .«start_offset»; end-offset = b .route .«end_offset» }; score = b .score }) (sym (take-nil (b .route .count)))
+no-middle b roads area = ap (λ (l : List ℕ). when (b .found) record { path = record { coverages = terminal-of (b .path .head) ++ map whole (map roads l) ++ terminal-of (b .path .tail); total-length = b .path .«total_length»; start-offset-m = b .path .«start_offset_m»; end-offset-m = b .path .«end_offset_m» }; score = b .score }) (sym (take-nil (b .path .count)))

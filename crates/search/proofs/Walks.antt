@@ -11,13 +11,13 @@ use lib.Seq.{length-take-le, take-suc-set, take-at, getD-set-same, getD-set-othe
 use lib.Ieee.{Float, nan}
 use Rattle.model.specs.declared.Road.{Road}
 use Rattle.model.specs.Layout.{most-roads}
-use Rattle.model.specs.Search.{Found, found, Label, label-at, real-of, came-from, trace}
+use Rattle.model.specs.Search.{SearchEnd, found, Label, label-at, real-of, came-from, trace}
 use Rattle.bounds.proofs.Choices.{same-or-other, below-or-not}
 use Rattle.bounds.proofs.Traces.{trace-ends, trace-goes}
 use Rattle.search.specs.declared.turns.Progress.{Progress}
 use Rattle.search.specs.declared.turns.Progress.the-variants as P
-use Rattle.search.specs.Areas.{unreached, labels-of, Mark, Ends, Back}
-use Rattle.search.specs.Answers.{Arrives, Numbers}
+use Rattle.search.specs.Areas.{unreached, labels-of, MarkOrRoad, EndsWithin, Back}
+use Rattle.search.specs.Answers.{GoalReached, RoadNumbers}
 use Rattle.search.proofs.Labels.{label-is, real-reached, came-road, came-start, came-unreached}
 use Rattle.search.proofs.Turned.{getD-reverse}
 
@@ -27,13 +27,13 @@ pub record Walking (n e : ℕ) (roads : ℕ → Road) (came : List ℕ) (goal : 
   pub inside : node < n
   pub mark : k ≡ getD came node 0
   pub to : i ≤ n - 1
-  pub ends : Ends roads e came (n - 1 - i) node
+  pub ends : EndsWithin roads e came (n - 1 - i) node
   pub size : length route ≡ length route₀
-  pub numbers : Numbers e i route
+  pub numbers : RoadNumbers e i route
   pub same : (real penalised : List Float) → trace (n - 1 - i) (labels-of roads n real penalised came) node (map roads (reverse (take i route))) ≡ trace (n - 1) (labels-of roads n real penalised came) goal []
 
 -- `few`: no mark is the number of a road. `within`: roads leave nodes.
-module _ (n e : ℕ) (roads : ℕ → Road) (came : List ℕ) (few : e ≤ most-roads) (marks : (v : ℕ) → v < n → Mark e (getD came v 0)) (within : (k : ℕ) → k < e → roads k .source < n) where
+module _ (n e : ℕ) (roads : ℕ → Road) (came : List ℕ) (few : e ≤ most-roads) (marks : (v : ℕ) → v < n → MarkOrRoad e (getD came v 0)) (within : (k : ℕ) → k < e → roads k .source < n) where
   -- ---- one step
 
   module _ (real penalised : List Float) where
@@ -51,7 +51,7 @@ module _ (n e : ℕ) (roads : ℕ → Road) (came : List ℕ) (few : e ≤ most-
     ]
 
     -- where one more step changes nothing, there are no more roads back
-    pub ends-there : (j v : ℕ) (path : List Road) → v < n → trace (suc j) ls v path ≡ trace j ls v path → Ends roads e came j v
+    pub ends-there : (j v : ℕ) (path : List Road) → v < n → trace (suc j) ls v path ≡ trace j ls v path → EndsWithin roads e came j v
     unfolding trace
     ends-there zero v path h same = elim (below-or-not (getD came v 0) e) [
       | inl p ↦ absurd (omega (arith, ap length (sym (trace-goes ls v path 0 (roads (getD came v 0)) (came-by-road v h p)) ∙ same)))
@@ -64,7 +64,7 @@ module _ (n e : ℕ) (roads : ℕ → Road) (came : List ℕ) (few : e ≤ most-
 
   -- ---- the loop
 
-  pub walk-start : (goal : ℕ) (route : List ℕ) → goal < n → Ends roads e came (n - 1) goal → Walking n e roads came goal route route 0 (getD came goal 0)
+  pub walk-start : (goal : ℕ) (route : List ℕ) → goal < n → EndsWithin roads e came (n - 1) goal → Walking n e roads came goal route route 0 (getD came goal 0)
   walk-start goal route h ends =
       let all : n - 1 ≡ n - 1 - 0 = omega arith in
       record {
@@ -72,7 +72,7 @@ module _ (n e : ℕ) (roads : ℕ → Road) (came : List ℕ) (few : e ≤ most-
         inside = h;
         mark = refl;
         to = omega arith;
-        ends = subst (λ (j : ℕ). Ends roads e came j goal) all ends;
+        ends = subst (λ (j : ℕ). EndsWithin roads e came j goal) all ends;
         size = refl;
         numbers = λ j l. absurd (omega arith);
         same = λ real penalised. ap (λ (j : ℕ). trace j (labels-of roads n real penalised came) goal []) (sym all);
@@ -89,7 +89,7 @@ module _ (n e : ℕ) (roads : ℕ → Road) (came : List ℕ) (few : e ≤ most-
       pub walk-room : i < n - 1
       walk-room = go (n - 1 - i) refl (w .ends)
         where
-          go : (j : ℕ) → n - 1 - i ≡ j → Ends roads e came j (w .node) → i < n - 1
+          go : (j : ℕ) → n - 1 - i ≡ j → EndsWithin roads e came j (w .node) → i < n - 1
           go zero is ends = absurd (omega (arith, w .mark))
           go (suc j) is ends = omega arith
 
@@ -106,7 +106,7 @@ module _ (n e : ℕ) (roads : ℕ → Road) (came : List ℕ) (few : e ≤ most-
             inside = subst (λ (u : ℕ). u < n) (sym is) (within k h);
             mark = refl;
             to = omega (arith, walk-room);
-            ends = subst (λ (u : ℕ). Ends roads e came j u) there (subst (λ (m : ℕ). Ends roads e came m node) more (w .ends) below);
+            ends = subst (λ (u : ℕ). EndsWithin roads e came j u) there (subst (λ (m : ℕ). EndsWithin roads e came m node) more (w .ends) below);
             size = length-set route i k ∙ w .size;
             numbers = λ m l. elim (same-or-other m i) [
               | inl p ↦ omega (arith, h, ap (λ (u : ℕ). getD (set route i k) u 0) p, getD-set-same route i k 0 room)
@@ -133,7 +133,7 @@ module _ (route turned : List ℕ) (k : ℕ) (h : k ≤ length route) (is : turn
   pub front-turned : take k (turned ++ drop k route) ≡ reverse (take k route)
   front-turned = rw is (take-at (reverse (take k route)) (drop k route) k front-length)
 
-  pub numbers-turned : {e : ℕ} → Numbers e k route → Numbers e k (turned ++ drop k route)
+  pub numbers-turned : {e : ℕ} → RoadNumbers e k route → RoadNumbers e k (turned ++ drop k route)
   numbers-turned below j l =
       let front = take k route in
       let long : length front ≡ k = length-take-le k route h in
@@ -145,7 +145,7 @@ module _ (route turned : List ℕ) (k : ℕ) (h : k ≤ length route) (is : turn
       ∙ getD-take k route (k - 1 - j) 0 (omega arith) in
       omega (arith, there, below (k - 1 - j) (omega arith))
 
-pub arrived-back : {n e : ℕ} {roads : ℕ → Road} {goal : ℕ} {p : Progress} {came : List ℕ} → p ≡ P.Found → Arrives n e roads goal p came → Back n e roads came goal
+pub arrived-back : {n e : ℕ} {roads : ℕ → Road} {goal : ℕ} {p : Progress} {came : List ℕ} → p ≡ P.Found → GoalReached n e roads goal p came → Back n e roads came goal
 arrived-back is h = rw is at h
 
 pub found-there : (roads : ℕ → Road) (n : ℕ) (real penalised : List Float) (came : List ℕ) (goal : ℕ) {shown way : List Road} {x : Float} → goal < n → getD came goal 0 ≢ unreached → shown ≡ way → getD real goal nan ≡ x

@@ -1,6 +1,6 @@
 // The roads that a search found: walked back from the goal, then turned round.
-use crate::Ask;
-use crate::Search;
+use crate::Query;
+use crate::SearchEnd;
 use crate::turns::Progress;
 use model::Counts;
 use model::Road;
@@ -13,9 +13,9 @@ ghost use lib.Ieee.{Float};
 ghost use Rattle.model.specs.Judge.{WellFormed};
 ghost use Rattle.model.specs.Sheet.{sheet-of, road-at};
 ghost use Rattle.model.specs.Search.{trace};
-ghost use Rattle.search.specs.Ask.{query-at};
+ghost use Rattle.search.specs.Query.{query-at};
 ghost use Rattle.search.specs.Areas.{labels-at, Back};
-ghost use Rattle.search.specs.Answers.{ended, Arrives, answer, Numbers, Holds};
+ghost use Rattle.search.specs.Answers.{end-of-search, GoalReached, search-end-of, RoadNumbers, RouteHeld};
 
 // Turns a list round in place.
 pub fn reverse(a: &mut [usize])
@@ -35,7 +35,7 @@ pub fn reverse(a: &mut [usize])
 // The roads from the goal back to the start, into the front of `route`: how many there are. A mark is no road's number.
 fn walk_back(s: &[u8], c: Counts, came_from: &[usize], route: &mut [usize], goal: usize) -> usize
     requires { ⌜ WellFormed (now s) c × (goal < c .n) × (c .n ≤ length (now route)) × Back (c .n) (c .e) (road-at (sheet-of (now s) c)) (now «came_from») goal ⌝ }
-    ensures { λ r. ⌜ (r ≤ c .n - 1) × Numbers (c .e) r (now (route .exit)) × ((labels : List Float)
+    ensures { λ r. ⌜ (r ≤ c .n - 1) × RoadNumbers (c .e) r (now (route .exit)) × ((labels : List Float)
         → map (road-at (sheet-of (now (s .entry)) c)) (reverse (take r (now (route .exit))))
         ≡ trace (c .n - 1) (labels-at (now (s .entry)) c labels (now («came_from» .entry))) goal []) ⌝ }
 {
@@ -54,26 +54,26 @@ fn walk_back(s: &[u8], c: Counts, came_from: &[usize], route: &mut [usize], goal
 pub fn trace_route(
     s: &[u8],
     c: Counts,
-    ask: Ask,
+    query: Query,
     progress: Progress,
     labels: &[f64],
     came_from: &[usize],
     route: &mut [usize],
-) -> Search
-    requires { ⌜ WellFormed (now s) c × (ask .goal < c .n) × (c .n ≤ length (now route)) × (c .n ≤ length (now labels)) × Arrives (c .n) (c .e) (road-at (sheet-of (now s) c)) (ask .goal) progress (now «came_from») ⌝ }
-    ensures found { λ r. ⌜ answer (road-at (sheet-of (now (s .entry)) c)) r (now (route .exit))
-        ≡ ended (c .n - 1) (query-at (now (s .entry)) c ask) progress (labels-at (now (s .entry)) c (now (labels .entry)) (now («came_from» .entry))) ⌝ }
-    ensures holds { λ r. ⌜ Holds (c .n) (c .e) r (now (route .exit)) ⌝ }
+) -> SearchEnd
+    requires { ⌜ WellFormed (now s) c × (query .goal < c .n) × (c .n ≤ length (now route)) × (c .n ≤ length (now labels)) × GoalReached (c .n) (c .e) (road-at (sheet-of (now s) c)) (query .goal) progress (now «came_from») ⌝ }
+    ensures found { λ r. ⌜ search-end-of (road-at (sheet-of (now (s .entry)) c)) r (now (route .exit))
+        ≡ end-of-search (c .n - 1) (query-at (now (s .entry)) c query) progress (labels-at (now (s .entry)) c (now (labels .entry)) (now («came_from» .entry))) ⌝ }
+    ensures holds { λ r. ⌜ RouteHeld (c .n) (c .e) r (now (route .exit)) ⌝ }
 {
     match progress {
-        Progress::Looking => Search::Nothing,
-        Progress::Full => Search::Full,
+        Progress::Looking => SearchEnd::Nothing,
+        Progress::Full => SearchEnd::Full,
         Progress::Found => {
-            let goal = ask.goal;
+            let goal = query.goal;
             let n = walk_back(s, c, came_from, route, goal);
             reverse(&mut route[..n]);
             let x = labels[goal];
-            Search::Found(x, n)
+            SearchEnd::Found(x, n)
         }
     }
 }

@@ -1,5 +1,5 @@
-use Rattle.legs.proofs.Ending.{outright, by-pairs, alone-fits}
-use Rattle.legs.specs.Found.{seek-at}
+use Rattle.legs.proofs.Ending.{outright, by-pairs, single-fits}
+use Rattle.legs.specs.Found.{middle-search-at}
 use mathlib.Core.Path.{ap}
 use mathlib.Core.Option.{none}
 use mathlib.Core.List.{List}
@@ -27,18 +27,18 @@ returns c = let a = c .before .before .before .before .before .before .before .b
     let t = sheet-of (a .s .now) (a .c) in
     let ten = ten-pairs t (a .c) (a .starts) (a .ends) (c .before .before .before .before .before .before .before .before .before .before .before .pre .0 .3) (c .before .before .before .before .before .before .before .before .before .before .before .pre .0 .4) in
     let same = c .before .before .before .try-same-edge-solution in
-    let alone = c .before .without-middle in
+    let single = c .before .without-middle in
     let best-route = a .best-route .now in (
-      c .best-or-none .ensures .0 (road-at t) best-route ∙ outright (a .b) (seek-at t (a .slots) (a .b)) (held t (a .starts)) (held t (a .ends)) (same .result) (λ roads area. same .ensures roads area ∙ ap (try-same-edge-solution (a .b)) ten) (road-at t) (c .before .before .if1 .taken) (alone .ensures .1 (road-at t) best-route),
-      c .best-or-none .ensures .1 (a .c .n) (a .c .e) best-route (alone-fits _ _ (alone .result) best-route (p .2) (alone .ensures .0)),
+      c .best-or-none .ensures .0 (road-at t) best-route ∙ outright (a .b) (middle-search-at t (a .slots) (a .b)) (held t (a .starts)) (held t (a .ends)) (same .result) (λ roads area. same .ensures roads area ∙ ap (try-same-edge-solution (a .b)) ten) (road-at t) (c .before .before .if1 .taken) (single .ensures .1 (road-at t) best-route),
+      c .best-or-none .ensures .1 (a .c .n) (a .c .e) best-route (single-fits _ _ (single .result) best-route (p .2) (single .ensures .0)),
     )
 
 try-pairs-requires : tie.Need-try-pairs-requires
 try-pairs-requires c κs = let p = c .before .before .before .before .before .before .before .before .before .before .before .before .before .before .before .pre in
     ((p .0 .0, p .0 .1, p .0 .3, p .0 .4), p .1)
 
-ended-requires : tie.Need-ended-requires
-ended-requires c κs = search needs
+after-pairs-requires : tie.Need-after-pairs-requires
+after-pairs-requires c κs = search needs
 
 same-length : tie.Need-same-length
 same-length c = search needs
@@ -64,8 +64,8 @@ returns-2 c = let a = c .before .before .before .before .before .before .before 
     let ten = ten-pairs t (a .c) (a .starts) (a .ends) (c .before .before .before .before .before .before .before .before .before .before .before .before .before .before .before .before .before .before .before .before .before .before .before .before .before .before .before .before .before .pre .0 .3) (c .before .before .before .before .before .before .before .before .before .before .before .before .before .before .before .before .before .before .before .before .before .before .before .before .before .before .before .before .before .pre .0 .4) in
     let same = c .before .before .before .before .before .before .before .before .before .before .before .before .before .before .before .before .before .before .before .before .before .try-same-edge-solution in
     let best-route = c .before .before .before .before .before .before .before .before .before .before .before .before .before .try-pairs .last .1 .1 .1 .1 .1 .1 .1 .1 .1 .0 in (
-      c .ended .ensures .0 (road-at t) best-route ∙ by-pairs (a .b) (seek-at t (a .slots) (a .b)) (held t (a .starts)) (held t (a .ends)) (same .result) (λ roads area. same .ensures roads area ∙ ap (try-same-edge-solution (a .b)) ten) (road-at t) (c .before .before .before .before .before .before .before .before .before .before .before .before .before .before .before .before .before .before .before .before .if1 .left) (c .before .before .before .before .before .before .before .before .before .before .before .before .before .try-pairs .ensures .0 ∙ ap (λ (ps : List Pair). try-pairs (a .b) (seek-at t (a .slots) (a .b)) (sort by-sum ps) none) ten),
-      c .ended .ensures .1 (a .c .n) (a .c .e) best-route (c .before .before .before .before .before .before .before .before .before .before .before .before .before .try-pairs .ensures .1),
+      c .after-pairs .ensures .0 (road-at t) best-route ∙ by-pairs (a .b) (middle-search-at t (a .slots) (a .b)) (held t (a .starts)) (held t (a .ends)) (same .result) (λ roads area. same .ensures roads area ∙ ap (try-same-edge-solution (a .b)) ten) (road-at t) (c .before .before .before .before .before .before .before .before .before .before .before .before .before .before .before .before .before .before .before .before .if1 .left) (c .before .before .before .before .before .before .before .before .before .before .before .before .before .try-pairs .ensures .0 ∙ ap (λ (ps : List Pair). try-pairs (a .b) (middle-search-at t (a .slots) (a .b)) (sort by-sum ps) none) ten),
+      c .after-pairs .ensures .1 (a .c .n) (a .c .e) best-route (c .before .before .before .before .before .before .before .before .before .before .before .before .before .try-pairs .ensures .1),
     )
 
 pub find-best-path-spec : {M : Type 1} → statement M
@@ -77,7 +77,7 @@ find-best-path-spec =
     best-or-none-requires
     returns
     try-pairs-requires
-    ended-requires
+    after-pairs-requires
     same-length
     same-length-2
     same-length-3

@@ -3,7 +3,7 @@ use borrow.Author.Needs.{needs}
 use native.Mathlib.Omega.{arith}
 use Rattle.search.specs.Areas.{columns}
 use Rattle.search.proofs.Halves.{halves-length}
-use Rattle.search.proofs.Whole.{stands-room, whole, arrives}
+use Rattle.search.proofs.Whole.{state-room, whole, arrives}
 use Rattle.search.proofs.bounded_astar.Statement.{statement}
 use Rattle.search.proofs.bounded_astar.Tie as tie
 
@@ -18,7 +18,7 @@ trace-route-requires c κs =
     let t = search-from-start .result in
     let l = search-from-start .last .1 .1 .1 .1 in
     let after = columns (start .args .c .n) (start .args .slots) (l .0) (l .1 .0) (l .1 .1 .0) (l .1 .1 .1 .0) (t .len) (t .made) in
-    let arrived = arrives _ _ (p .0 .0) (start .args .ask) _ (p .0 .1) (p .0 .2) (p .1 .0) (p .0 .3) (p .0 .4) (t .progress) after (search-from-start .ensures .1) (search-from-start .ensures .0) in
+    let arrived = arrives _ _ (p .0 .0) (start .args .query) _ (p .0 .1) (p .0 .2) (p .1 .0) (p .0 .3) (p .0 .4) (t .progress) after (search-from-start .ensures .1) (search-from-start .ensures .0) in
     (p .0 .0, p .0 .2, p .1 .1, omega (arith, search-from-start .kept .1 .1 .1 .1 .0, p .1 .2 .real, halves-length (start .args .c .n) (start .args .labels .now)), arrived)
 
 same-length : tie.Need-same-length
@@ -45,7 +45,7 @@ returns c =
     let l = search-from-start .last .1 .1 .1 .1 in
     let after = columns (start .args .c .n) (start .args .slots) (l .0) (l .1 .0) (l .1 .1 .0) (l .1 .1 .1 .0) (t .len) (t .made) in
     let trace-route = c .before .before .trace-route in
-    (trace-route .ensures .0 ∙ whole _ _ (p .0 .0) (start .args .ask) _ (p .0 .1) (p .0 .2) (p .1 .0) (p .0 .3) (p .0 .4) (t .progress) after (search-from-start .ensures .1), (stands-room _ _ _ _ (t .progress) after (search-from-start .ensures .0), trace-route .ensures .1))
+    (trace-route .ensures .0 ∙ whole _ _ (p .0 .0) (start .args .query) _ (p .0 .1) (p .0 .2) (p .1 .0) (p .0 .3) (p .0 .4) (t .progress) after (search-from-start .ensures .1), (state-room _ _ _ _ (t .progress) after (search-from-start .ensures .0), trace-route .ensures .1))
 
 pub bounded-astar-spec : {M : Type 1} → statement M
 bounded-astar-spec =

@@ -45,7 +45,7 @@ returns-2 c = let a = c .before .before .before .before .before .before .before 
     let w = c .before .before .before .before .before .before .before .before .before .before .before .before .before .before .before .before .before .before .before .before .way-between in
     let x = c .before .before .before .before .before .before .before .before .before .before .bounded-astar in
     let t = sheet-of (a .s .now) (a .c) in
-    (search-found t (a .slots) (a .b) (a .start) (a .goal) (a .a) (w .result) (w .ensures .0) (road-at t) (x .result .search) (x .last .1 .1 .1 .1 .1 .1 .0) _ (c .before .before .before .before .before .before .before .before .before .before .before .before .before .before .before .before .before .before .known2 .given .1) (x .ensures .0), x .ensures .1 .1)
+    (search-found t (a .slots) (a .b) (a .start) (a .goal) (a .a) (w .result) (w .ensures .0) (road-at t) (x .result .end) (x .last .1 .1 .1 .1 .1 .1 .0) _ (c .before .before .before .before .before .before .before .before .before .before .before .before .before .before .before .before .before .before .known2 .given .1) (x .ensures .0), x .ensures .1 .1)
 
 pub middle-spec : {M : Type 1} → statement M
 middle-spec =

@@ -10,7 +10,7 @@ use Rattle.model.specs.Candidates.{Candidate}
 use Rattle.candidates.proofs.Held.{held-at}
 use Rattle.candidates.specs.Found.{no-candidate, at-road, item-at, held}
 use Rattle.legs.proofs.Going.{Good, good-start, nearer, good-enough, good-turn, good-end, Kept, kept-start}
-use Rattle.legs.specs.Found.{seek-at}
+use Rattle.legs.specs.Found.{middle-search-at}
 use Rattle.search.proofs.Growth.{sized-on, sizes-on}
 use Rattle.search.proofs.Halves.{both-size, areas-same}
 use Rattle.search.specs.Areas.{columns}
@@ -38,7 +38,7 @@ abbrev μ-fill : tie.MeasureT-fill
 abbrev Inv-loop : tie.InvT-loop
 Inv-loop s c b slots labels₀ came-from₀ route₀ best-route₀ entries₀ links₀ starts ends count by-start by-end k heads₀ st₀ t₀ labels came-from route best-route entries links heads st t =
     Kept (columns (c .n) slots labels₀ came-from₀ entries₀ links₀ 0 0) (columns (c .n) slots labels came-from entries links 0 0) route₀ route best-route₀ best-route
-    × Good (road-at (sheet-of s c)) b (seek-at (sheet-of s c) slots b) (in-order (sheet-of s c) starts ends) (c .n) (c .e) (starts .count * ends .count) st best-route t
+    × Good (road-at (sheet-of s c)) b (middle-search-at (sheet-of s c) slots b) (in-order (sheet-of s c) starts ends) (c .n) (c .e) (starts .count * ends .count) st best-route t
     × Heads (sheet-of s c) starts ends (starts .count * ends .count) t heads
 
 abbrev μ-loop : tie.MeasureT-loop
@@ -132,7 +132,7 @@ same-length-4 : tie.Need-same-length-4 Inv-fill μ-fill Inv-loop μ-loop
 same-length-4 c = c .before .before .before .before .before .before .before .before .before .before .before .before .before .loop .inv .0 .best-route
 
 same-length-5 : tie.Need-same-length-5 Inv-fill μ-fill Inv-loop μ-loop
-same-length-5 c = both-size (c .before .before .before .before .before .before .before .before .before .before .before .before .before .before .before .before .before .before .before .before .before .before .before .before .args .slots) (c .before .before .before .before .before .before .before .before .before .before .before .before .before .before .before .before .before .before .before .before .before .before .before .before .args .entries .now) (c .before .before .before .before .before .before .before .before .before .before .before .before .before .loop .entries) (c .before .before .before .before .before .before .before .before .before .before .before .before .before .loop .inv .0 .sizes .key) (c .before .before .before .before .before .before .before .before .before .before .before .before .before .loop .inv .0 .sizes .cost)
+same-length-5 c = both-size (c .before .before .before .before .before .before .before .before .before .before .before .before .before .before .before .before .before .before .before .before .before .before .before .before .args .slots) (c .before .before .before .before .before .before .before .before .before .before .before .before .before .before .before .before .before .before .before .before .before .before .before .before .args .entries .now) (c .before .before .before .before .before .before .before .before .before .before .before .before .before .loop .entries) (c .before .before .before .before .before .before .before .before .before .before .before .before .before .loop .inv .0 .sizes .f-score) (c .before .before .before .before .before .before .before .before .before .before .before .before .before .loop .inv .0 .sizes .g-score)
 
 same-length-6 : tie.Need-same-length-6 Inv-fill μ-fill Inv-loop μ-loop
 same-length-6 c = both-size (c .before .before .before .before .before .before .before .before .before .before .before .before .before .before .before .before .before .before .before .before .before .before .before .before .args .slots) (c .before .before .before .before .before .before .before .before .before .before .before .before .before .before .before .before .before .before .before .before .before .before .before .before .args .links .now) (c .before .before .before .before .before .before .before .before .before .before .before .before .before .loop .links) (c .before .before .before .before .before .before .before .before .before .before .before .before .before .loop .inv .0 .sizes .order) (c .before .before .before .before .before .before .before .before .before .before .before .before .before .loop .inv .0 .sizes .node)
@@ -202,7 +202,7 @@ same-length-10 : tie.Need-same-length-10 Inv-fill μ-fill Inv-loop μ-loop
 same-length-10 c = c .before .loop .inv .0 .best-route
 
 same-length-11 : tie.Need-same-length-11 Inv-fill μ-fill Inv-loop μ-loop
-same-length-11 c = both-size (c .before .before .before .before .before .before .before .before .before .before .before .before .args .slots) (c .before .before .before .before .before .before .before .before .before .before .before .before .args .entries .now) (c .before .loop .entries) (c .before .loop .inv .0 .sizes .key) (c .before .loop .inv .0 .sizes .cost)
+same-length-11 c = both-size (c .before .before .before .before .before .before .before .before .before .before .before .before .args .slots) (c .before .before .before .before .before .before .before .before .before .before .before .before .args .entries .now) (c .before .loop .entries) (c .before .loop .inv .0 .sizes .f-score) (c .before .loop .inv .0 .sizes .g-score)
 
 same-length-12 : tie.Need-same-length-12 Inv-fill μ-fill Inv-loop μ-loop
 same-length-12 c = both-size (c .before .before .before .before .before .before .before .before .before .before .before .before .args .slots) (c .before .before .before .before .before .before .before .before .before .before .before .before .args .links .now) (c .before .loop .links) (c .before .loop .inv .0 .sizes .order) (c .before .loop .inv .0 .sizes .node)

@@ -1,4 +1,4 @@
-use Rattle.lines.proofs.Leaving.{known-route, leaves-route, leaves-none, leaves-full}
+use Rattle.lines.proofs.Leaving.{known-route, leg-written-route, leg-written-none, leg-written-full}
 use native.Mathlib.Omega.{arith}
 use borrow.Author.Needs.{needs}
 use Rattle.lines.proofs.leg.leave.Statement.{statement}
@@ -36,13 +36,13 @@ returns c = let a = c .before .before .before .before .before .before .before .b
     let p = c .before .before .before .before .before .before .before .before .before .before .before .before .before .before .before .before .before .before .before .pre in
     let w = c .before .before .before .before .before .before .before .before .before .write-leg .ensures in
     let v = c .before .before .before .before .cover-leg .ensures in
-    leaves-route (a .s .now) (a .c) (a .summed) _ _ _ _ _ (a .area .now) _ _ _ _ (c .before .before .before .before .before .before .before .before .before .before .before .before .found .given .1) (known-route (c .before .before .before .before .before .before .before .before .before .before .before .before .found .given .1) (p .0 .1)) (c .before .before .before .before .before .before .before .before .before .write-leg .result) (c .before .before .before .before .cover-leg .result) (w .0) (w .1) (v .0) (v .1) (v .2)
+    leg-written-route (a .s .now) (a .c) (a .summed) _ _ _ _ _ (a .area .now) _ _ _ _ (c .before .before .before .before .before .before .before .before .before .before .before .before .found .given .1) (known-route (c .before .before .before .before .before .before .before .before .before .before .before .before .found .given .1) (p .0 .1)) (c .before .before .before .before .before .before .before .before .before .write-leg .result) (c .before .before .before .before .cover-leg .result) (w .0) (w .1) (v .0) (v .1) (v .2)
 
 returns-2 : tie.Need-returns-2
-returns-2 c = leaves-none (c .before .before .before .before .before .before .before .args .s .now) (c .before .before .before .before .before .before .before .args .c) _ _ _ _ _ _ _ _ _ _ (c .enum-told .given .1)
+returns-2 c = leg-written-none (c .before .before .before .before .before .before .before .args .s .now) (c .before .before .before .before .before .before .before .args .c) _ _ _ _ _ _ _ _ _ _ (c .enum-told .given .1)
 
 returns-3 : tie.Need-returns-3
-returns-3 c = leaves-full (c .before .before .before .before .before .before .before .args .s .now) (c .before .before .before .before .before .before .before .args .c) _ _ _ _ _ _ _ _ _ _ (c .enum-told2 .given .1)
+returns-3 c = leg-written-full (c .before .before .before .before .before .before .before .args .s .now) (c .before .before .before .before .before .before .before .args .c) _ _ _ _ _ _ _ _ _ _ (c .enum-told2 .given .1)
 
 pub leave-spec : {M : Type 1} → statement M
 leave-spec =

@@ -1,9 +1,9 @@
 use Prim.Native.Nat.{_+_, _-_, _≤_, _<_}
 use Rattle.model.specs.Sheet.{sheet-of}
-use Rattle.candidates.specs.Found.{Lists}
-use Rattle.lines.proofs.Leaving.{priced, sought-is, leaves-as}
+use Rattle.candidates.specs.Found.{CandidatesOf}
+use Rattle.lines.proofs.Leaving.{priced, leg-end-is, leg-written-as}
 use Rattle.lines.proofs.Owned.{leg-known}
-use Rattle.lines.proofs.Going.{tail-split, tail-long, Going, going-start, stands-now, room, nearer, next-one, going-on, going-end, short-leg, few-entries}
+use Rattle.lines.proofs.Going.{tail-split, tail-long, Going, going-start, stored-now, room, nearer, next-one, going-on, going-end, short-leg, few-entries}
 use Rattle.legs.proofs.Going.{Kept, kept-start}
 use Rattle.search.proofs.Growth.{sized-on, sizes-on}
 use Rattle.search.proofs.Halves.{both-size, areas-same}
@@ -18,7 +18,7 @@ use Rattle.lines.proofs.runs.walk_legs.Tie as tie
 abbrev Inv-loop : tie.InvT-loop
 Inv-loop s c set summed slots labels₀ came-from₀ route₀ best-route₀ entries₀ links₀ covered₀ coverage₀ ids₀ points run₀ starts₀ labels came-from route best-route entries links covered coverage ids run starts =
     Kept (columns (c .n) slots labels₀ came-from₀ entries₀ links₀ 0 0) (columns (c .n) slots labels came-from entries links 0 0) route₀ route best-route₀ best-route
-    × (length covered ≡ length covered₀) × (length coverage ≡ length coverage₀) × (length ids ≡ length ids₀) × Going s c slots summed ids covered coverage run × (run .next + 1 < c .p → Lists (sheet-of s c) c (run .next) starts)
+    × (length covered ≡ length covered₀) × (length coverage ≡ length coverage₀) × (length ids ≡ length ids₀) × Going s c slots summed ids covered coverage run × (run .next + 1 < c .p → CandidatesOf (sheet-of s c) c (run .next) starts)
 
 abbrev μ-loop : tie.MeasureT-loop
 μ-loop s c set summed slots labels₀ came-from₀ route₀ best-route₀ entries₀ links₀ covered₀ coverage₀ ids₀ points run₀ starts₀ labels came-from route best-route entries links covered coverage ids run starts =
@@ -38,7 +38,7 @@ add-if1 c = omega (arith, c .before .loop .inv .4 .in-range, c .before .before .
 
 last-written-requires : tie.Need-last-written-requires Inv-loop μ-loop
 last-written-requires c κs = let a = c .before .before .before .loop in
-    let now = stands-now _ _ _ _ (a .inv .4) (c .before .if1 .taken) in
+    let now = stored-now _ _ _ _ (a .inv .4) (c .before .if1 .taken) in
     omega (arith, room _ _ _ _ (a .inv .4) (c .before .if1 .taken) _ (now .2 .few-roads), a .inv .3, c .before .before .before .before .before .before .before .before .before .before .before .before .before .before .before .before .pre .1 .0 .2)
 
 add-to : tie.Need-add-to Inv-loop μ-loop
@@ -58,35 +58,35 @@ find-best-path-requires c κs = let a = c .before .before .before .before .befor
 
 mul-leave : tie.Need-mul-leave Inv-loop μ-loop
 mul-leave c = let a = c .before .before .before .before .before .before .before .before .before .before .before .before .before .before .before .before .before .before .before .before .before .before .before .before .before .before .before .before .before .loop in
-    let now = stands-now _ _ _ _ (a .inv .4) (c .before .before .before .before .before .before .before .before .before .before .before .before .before .before .before .before .before .before .before .before .before .before .before .before .before .before .before .if1 .taken) in
+    let now = stored-now _ _ _ _ (a .inv .4) (c .before .before .before .before .before .before .before .before .before .before .before .before .before .before .before .before .before .before .before .before .before .before .before .before .before .before .before .if1 .taken) in
     let w = c .before .before .before .before .before .before .before .before .before .before .before .before .before .before .before .before .before .before .before .before .before .before .before .before .before .before .before .before .before .before .before .before .before .before .before .before .before .before .before .before .before .before .pre .0 .0 in
     omega (arith, room _ _ _ _ (a .inv .4) (c .before .before .before .before .before .before .before .before .before .before .before .before .before .before .before .before .before .before .before .before .before .before .before .before .before .before .before .if1 .taken) _ (now .2 .few-roads), few-entries (c .before .before .before .before .before .before .before .before .before .before .before .before .before .before .before .before .before .before .before .before .before .before .before .before .before .before .before .before .before .before .before .before .before .before .before .before .before .before .before .before .before .before .args .s .now) (c .before .before .before .before .before .before .before .before .before .before .before .before .before .before .before .before .before .before .before .before .before .before .before .before .before .before .before .before .before .before .before .before .before .before .before .before .before .before .before .before .before .before .args .c) (c .before .before .before .before .before .before .before .before .before .before .before .before .before .before .before .before .before .before .before .before .before .before .before .before .before .before .before .before .before .before .before .before .before .before .before .before .before .before .before .before .before .before .args .slots) (w .sound .small .p) (w .sound .small .n))
 
 sub-leave : tie.Need-sub-leave Inv-loop μ-loop
 sub-leave c = let a = c .before .before .before .before .before .before .before .before .before .before .before .before .before .before .before .before .before .before .before .before .before .before .before .before .before .before .before .before .before .loop in
-    let now = stands-now _ _ _ _ (a .inv .4) (c .before .before .before .before .before .before .before .before .before .before .before .before .before .before .before .before .before .before .before .before .before .before .before .before .before .before .before .if1 .taken) in
+    let now = stored-now _ _ _ _ (a .inv .4) (c .before .before .before .before .before .before .before .before .before .before .before .before .before .before .before .before .before .before .before .before .before .before .before .before .before .before .before .if1 .taken) in
     omega (arith, room _ _ _ _ (a .inv .4) (c .before .before .before .before .before .before .before .before .before .before .before .before .before .before .before .before .before .before .before .before .before .before .before .before .before .before .before .if1 .taken) _ (now .2 .few-roads), a .inv .3, c .before .before .before .before .before .before .before .before .before .before .before .before .before .before .before .before .before .before .before .before .before .before .before .before .before .before .before .before .before .before .before .before .before .before .before .before .before .before .before .before .before .before .pre .1 .0 .2)
 
 part-leave-start : tie.Need-part-leave-start Inv-loop μ-loop
 part-leave-start c = let a = c .before .before .before .before .before .before .before .before .before .before .before .before .before .before .before .before .before .before .before .before .before .before .before .before .before .before .before .before .before .loop in
-    let now = stands-now _ _ _ _ (a .inv .4) (c .before .before .before .before .before .before .before .before .before .before .before .before .before .before .before .before .before .before .before .before .before .before .before .before .before .before .before .if1 .taken) in
+    let now = stored-now _ _ _ _ (a .inv .4) (c .before .before .before .before .before .before .before .before .before .before .before .before .before .before .before .before .before .before .before .before .before .before .before .before .before .before .before .if1 .taken) in
     omega (arith, room _ _ _ _ (a .inv .4) (c .before .before .before .before .before .before .before .before .before .before .before .before .before .before .before .before .before .before .before .before .before .before .before .before .before .before .before .if1 .taken) _ (now .2 .few-roads), a .inv .3, c .before .before .before .before .before .before .before .before .before .before .before .before .before .before .before .before .before .before .before .before .before .before .before .before .before .before .before .before .before .before .before .before .before .before .before .before .before .before .before .before .before .before .pre .1 .0 .2)
 
 part-leave-end : tie.Need-part-leave-end Inv-loop μ-loop
 part-leave-end c = let a = c .before .before .before .before .before .before .before .before .before .before .before .before .before .before .before .before .before .before .before .before .before .before .before .before .before .before .before .before .before .loop in
-    let now = stands-now _ _ _ _ (a .inv .4) (c .before .before .before .before .before .before .before .before .before .before .before .before .before .before .before .before .before .before .before .before .before .before .before .before .before .before .before .if1 .taken) in
+    let now = stored-now _ _ _ _ (a .inv .4) (c .before .before .before .before .before .before .before .before .before .before .before .before .before .before .before .before .before .before .before .before .before .before .before .before .before .before .before .if1 .taken) in
     omega (arith, room _ _ _ _ (a .inv .4) (c .before .before .before .before .before .before .before .before .before .before .before .before .before .before .before .before .before .before .before .before .before .before .before .before .before .before .before .if1 .taken) _ (now .2 .few-roads), a .inv .3, c .before .before .before .before .before .before .before .before .before .before .before .before .before .before .before .before .before .before .before .before .before .before .before .before .before .before .before .before .before .before .before .before .before .before .before .before .before .before .before .before .before .before .pre .1 .0 .2)
 
 leave-requires : tie.Need-leave-requires Inv-loop μ-loop
 leave-requires c κs = let a = c .before .before .before .before .before .before .before .before .before .before .before .before .before .before .before .before .before .before .before .before .before .before .before .before .before .before .before .before .before .before .loop in
     let p = c .before .before .before .before .before .before .before .before .before .before .before .before .before .before .before .before .before .before .before .before .before .before .before .before .before .before .before .before .before .before .before .before .before .before .before .before .before .before .before .before .before .before .before .pre in
-    let now = stands-now _ _ _ _ (a .inv .4) (c .before .before .before .before .before .before .before .before .before .before .before .before .before .before .before .before .before .before .before .before .before .before .before .before .before .before .before .before .if1 .taken) in
+    let now = stored-now _ _ _ _ (a .inv .4) (c .before .before .before .before .before .before .before .before .before .before .before .before .before .before .before .before .before .before .before .before .before .before .before .before .before .before .before .before .if1 .taken) in
     let roads = room _ _ _ _ (a .inv .4) (c .before .before .before .before .before .before .before .before .before .before .before .before .before .before .before .before .before .before .before .before .before .before .before .before .before .before .before .before .if1 .taken) _ (now .2 .few-roads) in
     let covers = room _ _ _ _ (a .inv .4) (c .before .before .before .before .before .before .before .before .before .before .before .before .before .before .before .before .before .before .before .before .before .before .before .before .before .before .before .before .if1 .taken) _ (now .2 .few-coverages) in
-    let long = tail-long (a .ids) (a .run .course .written) (omega (arith, roads, a .inv .3, p .1 .0 .2)) in
+    let long = tail-long (a .ids) (a .run .path .written) (omega (arith, roads, a .inv .3, p .1 .0 .2)) in
     let f = c .before .before .before .before .before .before .before .before .before .before .before .before .before .before .before .before .find-best-path in
     let t = sheet-of (c .before .before .before .before .before .before .before .before .before .before .before .before .before .before .before .before .before .before .before .before .before .before .before .before .before .before .before .before .before .before .before .before .before .before .before .before .before .before .before .before .before .before .before .args .s .now) (c .before .before .before .before .before .before .before .before .before .before .before .before .before .before .before .before .before .before .before .before .before .before .before .before .before .before .before .before .before .before .before .before .before .before .before .before .before .before .before .before .before .before .before .args .c) in
-    let is = f .ensures .0 ∙ sought-is t (c .before .before .before .before .before .before .before .before .before .before .before .before .before .before .before .before .before .before .before .before .before .before .before .before .before .before .before .before .before .before .before .before .before .before .before .before .before .before .before .before .before .before .before .args .slots) (a .run .next) (c .before .before .before .before .before .before .before .before .before .before .before .before .before .before .before .before .before .before .before .before .before .before .before .leg-limits .ensures) (a .inv .5 (c .before .before .before .before .before .before .before .before .before .before .before .before .before .before .before .before .before .before .before .before .before .before .before .before .before .before .before .before .if1 .taken) .are) (c .before .before .before .before .before .before .before .before .before .before .before .before .before .before .before .before .before .before .before .before .before .before .before .before .find-candidates2 .ensures .are) in (
+    let is = f .ensures .0 ∙ leg-end-is t (c .before .before .before .before .before .before .before .before .before .before .before .before .before .before .before .before .before .before .before .before .before .before .before .before .before .before .before .before .before .before .before .before .before .before .before .before .before .before .before .before .before .before .before .args .slots) (a .run .next) (c .before .before .before .before .before .before .before .before .before .before .before .before .before .before .before .before .before .before .before .before .before .before .before .leg-limits .ensures) (a .inv .5 (c .before .before .before .before .before .before .before .before .before .before .before .before .before .before .before .before .before .before .before .before .before .before .before .before .before .before .before .before .if1 .taken) .are) (c .before .before .before .before .before .before .before .before .before .before .before .before .before .before .before .before .before .before .before .before .before .before .before .before .find-candidates2 .ensures .are) in (
       (p .0 .0, leg-known (c .before .before .before .before .before .before .before .before .before .before .before .before .before .before .before .before .before .before .before .before .before .before .before .before .before .before .before .before .before .before .before .before .before .before .before .before .before .before .before .before .before .before .before .args .s .now) (c .before .before .before .before .before .before .before .before .before .before .before .before .before .before .before .before .before .before .before .before .before .before .before .before .before .before .before .before .before .before .before .before .before .before .before .before .before .before .before .before .before .before .before .args .c) (p .0 .0) (c .before .before .before .before .before .before .before .before .before .before .before .before .before .before .before .before .before .before .before .before .before .before .before .before .before .before .before .before .before .before .before .before .before .before .before .before .before .before .before .before .before .before .before .args .slots) (a .run .next) (c .before .before .before .before .before .before .before .before .before .before .before .before .before .before .before .before .before .before .before .before .before .before .before .before .before .before .before .before .if1 .taken) (f .result) (f .last .1 .1 .1 .1 .1 .1 .1 .1 .1 .0) is (f .ensures .1) (omega (arith, a .inv .0 .best-route, p .1 .1 .2, f .kept .1 .1 .1 .1 .1 .1 .1 .1 .1 .0)), now .2 .below),
       (omega (arith, covers, a .inv .1, p .1 .0 .0), omega (arith, covers, a .inv .2, p .1 .0 .1), omega (arith, roads, a .inv .3, p .1 .0 .2, long)),
     )
@@ -94,7 +94,7 @@ leave-requires c κs = let a = c .before .before .before .before .before .before
 advance-requires : tie.Need-advance-requires Inv-loop μ-loop
 advance-requires c κs = let a = c .before .before .before .before .before .before .before .before .before .before .before .before .before .before .before .before .before .before .before .before .before .before .before .before .before .before .before .before .before .before .before .before .before .before .before .before .before .loop in
     let w = c .before .before .before .before .before .before .before .before .before .before .before .before .before .before .before .before .before .before .before .before .before .before .before .before .before .before .before .before .before .before .before .before .before .before .before .before .before .before .before .before .before .before .before .before .before .before .before .before .before .before .pre .0 .0 in
-    let now = stands-now _ _ _ _ (a .inv .4) (c .before .before .before .before .before .before .before .before .before .before .before .before .before .before .before .before .before .before .before .before .before .before .before .before .before .before .before .before .before .before .before .before .before .before .before .if1 .taken) in
+    let now = stored-now _ _ _ _ (a .inv .4) (c .before .before .before .before .before .before .before .before .before .before .before .before .before .before .before .before .before .before .before .before .before .before .before .before .before .before .before .before .before .before .before .before .before .before .before .if1 .taken) in
     let few = few-entries (c .before .before .before .before .before .before .before .before .before .before .before .before .before .before .before .before .before .before .before .before .before .before .before .before .before .before .before .before .before .before .before .before .before .before .before .before .before .before .before .before .before .before .before .before .before .before .before .before .before .before .args .s .now) (c .before .before .before .before .before .before .before .before .before .before .before .before .before .before .before .before .before .before .before .before .before .before .before .before .before .before .before .before .before .before .before .before .before .before .before .before .before .before .before .before .before .before .before .before .before .before .before .before .before .before .args .c) (c .before .before .before .before .before .before .before .before .before .before .before .before .before .before .before .before .before .before .before .before .before .before .before .before .before .before .before .before .before .before .before .before .before .before .before .before .before .before .before .before .before .before .before .before .before .before .before .before .before .before .args .slots) (w .sound .small .p) (w .sound .small .n) in
     (omega (arith, a .inv .4 .in-range, w .sound .small .p), omega (arith, room _ _ _ _ (a .inv .4) (c .before .before .before .before .before .before .before .before .before .before .before .before .before .before .before .before .before .before .before .before .before .before .before .before .before .before .before .before .before .before .before .before .before .before .before .if1 .taken) _ (now .2 .few-roads), few), short-leg _ _ (c .before .before .before .before .before .before .before .before .before .before .before .before .before .before .before .before .before .before .before .before .before .before .before .before .before .before .before .before .before .before .before .before .before .before .before .before .before .before .before .before .before .before .before .before .before .before .before .before .before .before .args .slots) (w .sound .small .n) _ _ _ _ _ _ _ _ _ (c .before .before .before .before .before .before .leave .result) (c .before .before .before .before .before .before .leave .ensures))
 
@@ -109,8 +109,8 @@ loop-again c = let a = c .before .before .before .before .before .before .before
     let l = f .last .1 .1 .1 .1 .1 .1 in
     let left = c .before .before .before .before .before .before .before .leave .kept .1 .1 .1 .1 .1 .1 .1 .1 in
     let t = sheet-of (c .before .before .before .before .before .before .before .before .before .before .before .before .before .before .before .before .before .before .before .before .before .before .before .before .before .before .before .before .before .before .before .before .before .before .before .before .before .before .before .before .before .before .before .before .before .before .before .before .before .before .before .args .s .now) (c .before .before .before .before .before .before .before .before .before .before .before .before .before .before .before .before .before .before .before .before .before .before .before .before .before .before .before .before .before .before .before .before .before .before .before .before .before .before .before .before .before .before .before .before .before .before .before .before .before .before .before .args .c) in
-    let at = a .run .course .written in
-    let now = stands-now _ _ _ _ (a .inv .4) (c .before .before .before .before .before .before .before .before .before .before .before .before .before .before .before .before .before .before .before .before .before .before .before .before .before .before .before .before .before .before .before .before .before .before .before .before .if1 .taken) in
+    let at = a .run .path .written in
+    let now = stored-now _ _ _ _ (a .inv .4) (c .before .before .before .before .before .before .before .before .before .before .before .before .before .before .before .before .before .before .before .before .before .before .before .before .before .before .before .before .before .before .before .before .before .before .before .before .if1 .taken) in
     let roads = room _ _ _ _ (a .inv .4) (c .before .before .before .before .before .before .before .before .before .before .before .before .before .before .before .before .before .before .before .before .before .before .before .before .before .before .before .before .before .before .before .before .before .before .before .before .if1 .taken) _ (now .2 .few-roads) in
     let fits : at ≤ length (a .ids) = omega (arith, roads, a .inv .3, p .1 .0 .2) in
     let long = left .1 .1 .0 ∙ tail-long (a .ids) at fits in
@@ -123,7 +123,7 @@ loop-again c = let a = c .before .before .before .before .before .before .before
       left .0 ∙ a .inv .1,
       left .1 .0 ∙ a .inv .2,
       c .before .before .ids .given .1 ∙ a .inv .3,
-      rw (c .advance .ensures) (going-on _ _ _ _ (a .inv .4) (c .before .before .before .before .before .before .before .before .before .before .before .before .before .before .before .before .before .before .before .before .before .before .before .before .before .before .before .before .before .before .before .before .before .before .before .before .if1 .taken) _ out _ _ (λ m h. tail-split (a .ids) out _ at m fits (omega (arith, roads, a .inv .3, p .1 .0 .2, long))) (c .before .before .before .before .before .before .before .leave .result) (rw (c .before .before .before .before .before .before .before .before .before .before .before .before .before .before .before .before .before .before .before .before .before .before .before .before .before .before .before .before .before .before .before .before .before .before .last-written .ensures) at (leaves-as _ _ _ _ _ _ _ _ _ _ (c .before .before .before .before .before .before .before .before .before .before .before .before .before .before .before .before .before .before .before .before .before .before .before .before .before .before .before .before .before .before .before .leg-limits .ensures) (f .ensures .0 ∙ sought-is t (c .before .before .before .before .before .before .before .before .before .before .before .before .before .before .before .before .before .before .before .before .before .before .before .before .before .before .before .before .before .before .before .before .before .before .before .before .before .before .before .before .before .before .before .before .before .before .before .before .before .before .before .args .slots) (a .run .next) (c .before .before .before .before .before .before .before .before .before .before .before .before .before .before .before .before .before .before .before .before .before .before .before .before .before .before .before .before .before .before .before .leg-limits .ensures) (a .inv .5 (c .before .before .before .before .before .before .before .before .before .before .before .before .before .before .before .before .before .before .before .before .before .before .before .before .before .before .before .before .before .before .before .before .before .before .before .before .if1 .taken) .are) (c .before .before .before .before .before .before .before .before .before .before .before .before .before .before .before .before .before .before .before .before .before .before .before .before .before .before .before .before .before .before .before .before .find-candidates2 .ensures .are)) (c .before .before .before .before .before .before .before .leave .ensures)))),
+      rw (c .advance .ensures) (going-on _ _ _ _ (a .inv .4) (c .before .before .before .before .before .before .before .before .before .before .before .before .before .before .before .before .before .before .before .before .before .before .before .before .before .before .before .before .before .before .before .before .before .before .before .before .if1 .taken) _ out _ _ (λ m h. tail-split (a .ids) out _ at m fits (omega (arith, roads, a .inv .3, p .1 .0 .2, long))) (c .before .before .before .before .before .before .before .leave .result) (rw (c .before .before .before .before .before .before .before .before .before .before .before .before .before .before .before .before .before .before .before .before .before .before .before .before .before .before .before .before .before .before .before .before .before .before .last-written .ensures) at (leg-written-as _ _ _ _ _ _ _ _ _ _ (c .before .before .before .before .before .before .before .before .before .before .before .before .before .before .before .before .before .before .before .before .before .before .before .before .before .before .before .before .before .before .before .leg-limits .ensures) (f .ensures .0 ∙ leg-end-is t (c .before .before .before .before .before .before .before .before .before .before .before .before .before .before .before .before .before .before .before .before .before .before .before .before .before .before .before .before .before .before .before .before .before .before .before .before .before .before .before .before .before .before .before .before .before .before .before .before .before .before .before .args .slots) (a .run .next) (c .before .before .before .before .before .before .before .before .before .before .before .before .before .before .before .before .before .before .before .before .before .before .before .before .before .before .before .before .before .before .before .leg-limits .ensures) (a .inv .5 (c .before .before .before .before .before .before .before .before .before .before .before .before .before .before .before .before .before .before .before .before .before .before .before .before .before .before .before .before .before .before .before .before .before .before .before .before .if1 .taken) .are) (c .before .before .before .before .before .before .before .before .before .before .before .before .before .before .before .before .before .before .before .before .before .before .before .before .before .before .before .before .before .before .before .before .find-candidates2 .ensures .are)) (c .before .before .before .before .before .before .before .leave .ensures)))),
       (rw (c .advance .ensures) (λ h. rw (next-one _ _ _ _ (a .inv .4) (c .before .before .before .before .before .before .before .before .before .before .before .before .before .before .before .before .before .before .before .before .before .before .before .before .before .before .before .before .before .before .before .before .before .before .before .before .if1 .taken) (c .before .before .before .before .before .before .before .leave .result) h) (c .before .before .before .before .before .before .before .before .before .before .before .before .before .before .before .before .before .before .before .before .before .before .before .before .before .before .before .before .before .before .before .before .find-candidates2 .ensures))),
     )
 
@@ -140,7 +140,7 @@ same-length-4 : tie.Need-same-length-4 Inv-loop μ-loop
 same-length-4 c = c .before .before .loop .inv .0 .best-route
 
 same-length-5 : tie.Need-same-length-5 Inv-loop μ-loop
-same-length-5 c = both-size (c .before .before .before .before .before .before .before .before .before .before .before .before .before .before .before .args .slots) (c .before .before .before .before .before .before .before .before .before .before .before .before .before .before .before .args .entries .now) (c .before .before .loop .entries) (c .before .before .loop .inv .0 .sizes .key) (c .before .before .loop .inv .0 .sizes .cost)
+same-length-5 c = both-size (c .before .before .before .before .before .before .before .before .before .before .before .before .before .before .before .args .slots) (c .before .before .before .before .before .before .before .before .before .before .before .before .before .before .before .args .entries .now) (c .before .before .loop .entries) (c .before .before .loop .inv .0 .sizes .f-score) (c .before .before .loop .inv .0 .sizes .g-score)
 
 same-length-6 : tie.Need-same-length-6 Inv-loop μ-loop
 same-length-6 c = both-size (c .before .before .before .before .before .before .before .before .before .before .before .before .before .before .before .args .slots) (c .before .before .before .before .before .before .before .before .before .before .before .before .before .before .before .args .links .now) (c .before .before .loop .links) (c .before .before .loop .inv .0 .sizes .order) (c .before .before .loop .inv .0 .sizes .node)

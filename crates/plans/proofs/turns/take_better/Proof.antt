@@ -1,5 +1,5 @@
 use borrow.Author.Needs.{needs}
-use Rattle.plans.proofs.Settling.{next-taken, best-kept}
+use Rattle.plans.proofs.AfterPair.{next-taken, best-kept}
 use Rattle.plans.proofs.turns.take_better.Statement.{statement}
 use Rattle.plans.proofs.turns.take_better.Tie as tie
 

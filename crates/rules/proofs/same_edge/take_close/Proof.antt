@@ -7,14 +7,14 @@ use Rattle.rules.proofs.same_edge.take_close.Tie as tie
 close-requires : tie.Need-close-requires
 close-requires c κs = search needs
 
-on-one-road-requires : tie.Need-on-one-road-requires
-on-one-road-requires c κs = search needs
+same-edge-scored-requires : tie.Need-same-edge-scored-requires
+same-edge-scored-requires c κs = search needs
 
 first-or-better-requires : tie.Need-first-or-better-requires
 first-or-better-requires c κs = search needs
 
 returns : tie.Need-returns
-returns c = λ roads area. c .first-or-better .ensures roads area ∙ rw (c .before .on-one-road .ensures roads area) (close-taken _ _ _ (sym (c .before .before .before .close .ensures) ∙ c .before .before .if1 .taken))
+returns c = λ roads area. c .first-or-better .ensures roads area ∙ rw (c .before .same-edge-scored .ensures roads area) (close-taken _ _ _ (sym (c .before .before .before .close .ensures) ∙ c .before .before .if1 .taken))
 
 returns-2 : tie.Need-returns-2
 returns-2 c = λ roads area. close-left _ _ _ (sym (c .before .close .ensures) ∙ c .if1 .left)
@@ -22,4 +22,4 @@ returns-2 c = λ roads area. close-left _ _ _ (sym (c .before .close .ensures) �
 pub take-close-spec : {M : Type 1} → statement M
 take-close-spec =
     tie.close
-    (tie.spec close-requires on-one-road-requires first-or-better-requires returns returns-2)
+    (tie.spec close-requires same-edge-scored-requires first-or-better-requires returns returns-2)

@@ -1,7 +1,7 @@
 use mathlib.Core.Option.{none}
 use Rattle.rules.proofs.OneRoad.{end-apart, end-taken, ends-done, start-more, starts-done, starts-none}
 use Rattle.rules.specs.declared.Best.{Best}
-use Rattle.rules.specs.Code.{Stands, best-of}
+use Rattle.rules.specs.Code.{BestIs, best-of}
 use Rattle.candidates.proofs.Held.{held-at, held-long}
 use Rattle.candidates.specs.Found.{at-road, held, item-at, no-candidate, on}
 use Rattle.model.proofs.Parsed.{number-is}
@@ -30,7 +30,7 @@ abbrev μ-ends : tie.MeasureT-ends
 
 abbrev Inv-loop : tie.InvT-loop
 Inv-loop s c b starts ends best₀ i₀ best i =
-    (i ≤ starts .count) × Stands best (fold (take-close b) none (pairs (take i (held (sheet-of s c) starts)) (held (sheet-of s c) ends)))
+    (i ≤ starts .count) × BestIs best (fold (take-close b) none (pairs (take i (held (sheet-of s c) starts)) (held (sheet-of s c) ends)))
 
 abbrev μ-loop : tie.MeasureT-loop
 μ-loop s c b starts ends best₀ i₀ best i =
@@ -78,8 +78,8 @@ ends-again c = let a = c .before .before .before .before .before .before .before
       omega (arith, c .before .before .before .ends-test .taken),
       ⊎-elim
           (λ w. let e : c .if1 .best ≡ w .2 .result = w .3 in
-          let first : w .1 .result ≡ road-at t (start .road) = w .1 .ensures .0 in
-          let last : w .1 .result ≡ road-at t (item-at (a .t5) j .road) = first ∙ ap (road-at t) (sym (w .0 .taken)) in
+          let first : w .1 .result ≡ road-at t (start .«edge_idx») = w .1 .ensures .0 in
+          let last : w .1 .result ≡ road-at t (item-at (a .t5) j .«edge_idx») = first ∙ ap (road-at t) (sym (w .0 .taken)) in
           let y : on (w .1 .result) (item-at (a .t5) j) ≡ getD ys j no-candidate = ap (λ (r : Road). on r (item-at (a .t5) j)) last ∙ sym at in
           λ roads area. ap (λ (r : Best). best-of roads r area) e ∙ w .2 .ensures roads area
           ∙ ap (λ (z : Candidate). take-close (a .b) (best-of roads (c .before .before .before .before .ends .best) area) (pair (on (w .1 .result) start) z)) y
@@ -87,7 +87,7 @@ ends-again c = let a = c .before .before .before .before .before .before .before
           ∙ end-taken (a .b) x ys (best-of roads (c .before .before .before .before .before .before .before .loop .best) area) j l (best-of roads (c .before .before .before .before .ends .best) area) (c .before .before .before .before .ends .inv .1 roads area))
           (λ w. let e : c .if1 .best ≡ c .before .before .before .before .ends .best = w .1 in
           λ roads area. ap (λ (r : Best). best-of roads r area) e ∙ end-apart (a .b) x ys (best-of roads (c .before .before .before .before .before .before .before .loop .best) area) j l (best-of roads (c .before .before .before .before .ends .best) area) (c .before .before .before .before .ends .inv .1 roads area)
-          (λ q. w .0 .left (sym (number-is (a .s .now) (a .c) (item-at (a .t5) j .road) (p .2 .named j (c .before .before .before .ends-test .taken))) ∙ ap (λ (z : Candidate). z .road .number) (sym at) ∙ q ∙ number-is (a .s .now) (a .c) (start .road) (p .1 .named (c .before .before .before .before .before .before .before .loop .i) (c .before .before .before .before .before .before .loop-test .taken)))))
+          (λ q. w .0 .left (sym (number-is (a .s .now) (a .c) (item-at (a .t5) j .«edge_idx») (p .2 .named j (c .before .before .before .ends-test .taken))) ∙ ap (λ (z : Candidate). z .road .number) (sym at) ∙ q ∙ number-is (a .s .now) (a .c) (start .«edge_idx») (p .1 .named (c .before .before .before .before .before .before .before .loop .i) (c .before .before .before .before .before .before .loop-test .taken)))))
           (c .if1 .came),
     )
 

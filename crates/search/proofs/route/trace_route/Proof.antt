@@ -7,8 +7,8 @@ use lib.ListN.{length, take, drop}
 use lib.Seq.{length-take-le, getD-take}
 use lib.Ieee.{nan}
 use Rattle.model.specs.Sheet.{sheet-of, road-at}
-use Rattle.search.specs.Ask.{asked}
-use Rattle.search.specs.Answers.{answer, Holds}
+use Rattle.search.specs.Query.{query-on}
+use Rattle.search.specs.Answers.{search-end-of, RouteHeld}
 use Rattle.search.proofs.Walks.{front-turned, numbers-turned, arrived-back, found-there}
 use Rattle.search.proofs.route.trace_route.Statement.{statement}
 use Rattle.search.proofs.route.trace_route.Tie as tie
@@ -47,18 +47,18 @@ shared-slice-read-x : tie.Need-shared-slice-read-x
 shared-slice-read-x c = search needs
 
 returns : tie.Need-returns
-unfolding answer Holds
+unfolding search-end-of RouteHeld
 returns c = (rw (c .enum-told .given .1), tt)
 
 returns-2 : tie.Need-returns-2
-unfolding answer Holds
+unfolding search-end-of RouteHeld
 returns-2 c = (rw (c .enum-told2 .given .1), tt)
 
 same-length : tie.Need-same-length
 same-length c = search needs
 
 returns-3 : tie.Need-returns-3
-unfolding asked answer Holds
+unfolding query-on search-end-of RouteHeld
 returns-3 c =
     let start = c .before .before .before .before .before .before .before .before .before .before .before .before .before .before .before in
     let enum-told3 = c .before .before .before .before .before .before .before .before .before .enum-told3 in
