@@ -12,7 +12,7 @@ put-road-requires : tie.Need-put-road-requires
 put-road-requires c κs = search needs
 
 returns : tie.Need-returns
-returns c = let fits = road-length (c .before .before .before .args .id) (c .before .before .before .args .coverage-m) in
+returns c = let fits = road-length (c .before .before .before .args .id) (c .before .before .before .args .metres) in
     let size = put-size (c .before .put-road .ensures) (omega arith) in
     (size, omega arith)
 
