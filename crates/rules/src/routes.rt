@@ -27,7 +27,7 @@ fn no_middle() -> Middle
 
 // No route yet.
 pub fn no_best() -> Best
-    ensures { λ r. ⌜ Stands r none ⌝ }
+    ensures { λ r. ⌜ Stands r none × (r .route .middle .count ≡ 0) ⌝ }
 {
     let road = Road {
         number: 0,

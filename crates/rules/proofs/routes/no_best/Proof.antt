@@ -1,3 +1,5 @@
+use Rattle.rules.specs.declared.Middle.{Middle}
+use mathlib.Core.Path.{refl, ap}
 use Rattle.rules.proofs.BestLaws.{best-none}
 use mathlib.Core.Path.{refl}
 use borrow.Author.Needs.{needs}
@@ -13,7 +15,7 @@ no-middle-requires c κs = search needs
 
 -- src/routes.rt:29:1
 returns : tie.Need-returns
-returns c = λ seek. best-none seek _ refl
+returns c = ((λ seek. best-none seek _ refl), ap (λ (m : Middle). m .count) (c .no-middle .ensures))
 
 pub no-best-spec : {M : Type 1} → statement M
 no-best-spec = tie.close (tie.spec no-middle-requires returns)

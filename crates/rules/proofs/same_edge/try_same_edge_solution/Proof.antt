@@ -40,7 +40,7 @@ no-best-requires : tie.Need-no-best-requires Inv-ends μ-ends Inv-loop μ-loop
 no-best-requires c κs = search needs
 
 loop-holds : tie.Need-loop-holds Inv-ends μ-ends Inv-loop μ-loop
-loop-holds c = let a = c .before .before .args in let p = c .before .before .pre in let t = sheet-of (a .s .now) (a .c) in (omega arith, λ seek. c .no-best .ensures seek ∙ starts-none (a .b) (held t (a .t4)) (held t (a .t5)))
+loop-holds c = let a = c .before .before .args in let p = c .before .before .pre in let t = sheet-of (a .s .now) (a .c) in (omega arith, λ seek. c .no-best .ensures .0 seek ∙ starts-none (a .b) (held t (a .t4)) (held t (a .t5)))
 
 mul-x : tie.Need-mul-x Inv-ends μ-ends Inv-loop μ-loop
 mul-x c = omega (arith, c .before .before .before .before .pre .1 .few, c .loop-test .taken)
