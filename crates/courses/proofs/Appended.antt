@@ -16,8 +16,8 @@ use Rattle.model.specs.Legs.{Coverage, whole}
 use Rattle.model.specs.Decode.{roads-of, same-number, append}
 use Rattle.model.proofs.Parsed.{number-is}
 use Rattle.rules.specs.declared.Route.{Route}
-use Rattle.rules.specs.Code.{part-of, path-of}
-use Rattle.courses.specs.Left.{covers, Known, numbers, numbers-of, fresh}
+use Rattle.rules.specs.Code.{part-of}
+use Rattle.courses.specs.Left.{path-of, covers, Known, numbers, numbers-of, fresh}
 
 abbrev number : Road → ℕ
 number x = x .number
@@ -34,16 +34,16 @@ unfolding numbers-of whole
 numbers-are s c r area known =
     let t = sheet-of s c in
     let f : Coverage → ℕ = λ x. x .road .number in
-    let ks = take (r .count) area in
-    let size = length-take-le (r .count) area (known .room) in
+    let ks = take (r .middle .count) area in
+    let size = length-take-le (r .middle .count) area (known .room) in
     let own : map f (map whole (map (road-at t) ks)) ≡ ks =
     map-map f whole (map (road-at t) ks) ∙ map-map (λ (x : Road). f (whole x)) (road-at t) ks
-    ∙ same-all (λ k. road-at t k .number) ks (λ j l. rw (getD-take (r .count) area j 0 (omega arith)) (number-is s c (getD area j 0) (known .numbers j (omega arith)))) in
+    ∙ same-all (λ k. road-at t k .number) ks (λ j l. rw (getD-take (r .middle .count) area j 0 (omega arith)) (number-is s c (getD area j 0) (known .numbers j (omega arith)))) in
     sym (map-append f (part-of (r .head) ++ map whole (map (road-at t) ks)) (part-of (r .tail))
     ∙ ap (λ (xs : List ℕ). xs ++ numbers (part-of (r .tail))) (map-append f (part-of (r .head)) (map whole (map (road-at t) ks)) ∙ ap (λ (xs : List ℕ). numbers (part-of (r .head)) ++ xs) own))
 
 -- they are the numbers of the definition's roads
-pub numbers-of-roads : (t : Sheet) (r : Route) (area : List ℕ) → numbers (covers t r area) ≡ map (λ (x : Road). x .number) (roads-of (path-of (road-at t) r area))
+pub numbers-of-roads : (t : Sheet) (r : Route) (area : List ℕ) → numbers (covers t r area) ≡ map (λ (x : Road). x .number) (roads-of (path-of t r area))
 numbers-of-roads t r area = sym (map-map number (λ (x : Coverage). x .road) (covers t r area))
 
 -- ---- behind a path

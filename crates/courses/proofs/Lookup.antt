@@ -2,21 +2,23 @@
 use Prim.Native.Nat.{ℕ, zero, suc, _+_, _-_, _≤_, _<_}
 use mathlib.Core.Path.{_≡_, refl, sym, ap, _∙_}
 use mathlib.Core.Bool.{Bool, true, false}
-use mathlib.Core.List.{List, _++_, map}
+use mathlib.Core.List.{List, [], _∷_, _++_, map}
 use native.Mathlib.Omega.{arith}
-use lib.ListN.{length, getD, take, length-append, length-map, List·getD-append}
+use lib.ListN.{length, getD, set, take, drop, length-append, length-map, List·getD-append}
 use lib.Seq.{length-take-le, getD-take, getD-append-add}
 use lib.Ieee.{Float}
 use Rattle.model.specs.declared.Counts.{Counts}
 use Rattle.model.specs.declared.Road.{Road}
 use Rattle.model.specs.Sheet.{Sheet, road-at, no-road}
 use Rattle.model.specs.Legs.{Coverage, terminal, whole}
+use Rattle.rules.specs.declared.Middle.{Middle}
 use Rattle.rules.specs.declared.Part.{Part}
 use Rattle.rules.specs.declared.Route.{Route}
 use Rattle.rules.specs.Code.{part-of}
+use Rattle.search.specs.Areas.{back-way}
 use Rattle.model.proofs.Members.{getD-map}
 use Rattle.courses.specs.declared.Cover.{Cover}
-use Rattle.courses.specs.Left.{covers, size-of, Known, numbers, numbers-of, coverage-of}
+use Rattle.courses.specs.Left.{covers, middle-numbers, size-of, Known, numbers, numbers-of, coverage-of}
 
 -- ---- a list of three parts, at j
 
@@ -51,6 +53,21 @@ pub terminal-none : (b : Bool) (r : Road) (m : Float) → b ≡ false → 0 ≡ 
 unfolding terminal
 terminal-none b r m e = rw e
 
+pub terminal-number : (b : Bool) (r : Road) (m : Float) → b ≡ true → numbers (terminal b r m) ≡ r .number ∷ []
+unfolding terminal
+terminal-number b r m e = rw e
+
+pub terminal-no-number : (b : Bool) (r : Road) (m : Float) → b ≡ false → numbers (terminal b r m) ≡ []
+unfolding terminal
+terminal-no-number b r m e = rw e
+
+pub numbers-long : (cs : List Coverage) → length (numbers cs) ≡ length cs
+numbers-long cs = length-map cs (λ (x : Coverage). x .road .number)
+
+pub set-first : (out : List ℕ) (k : ℕ) → 0 < length out → set out 0 k ≡ k ∷ drop 1 out
+set-first [] k h = absurd (omega arith)
+set-first (x ∷ xs) k h = refl
+
 terminal-few : (b : Bool) (r : Road) (m : Float) → length (terminal b r m) ≤ 1
 unfolding terminal
 terminal-few true r m = omega arith
@@ -74,16 +91,16 @@ module _ (p : Part) (j : ℕ) (h : j < length (part-of p)) where
 
 -- ---- a route with its middle in the front of an area
 
-pub size-few : (r : Route) → size-of r ≤ r .count + 2
+pub size-few : (r : Route) → size-of r ≤ r .middle .count + 2
 unfolding size-of
 size-few r = omega (arith, terminal-few (r .head .kept) (r .head .road) (r .head .metres), terminal-few (r .tail .kept) (r .tail .road) (r .tail .metres))
 
-module _ (r : Route) (area : List ℕ) (room : r .count ≤ length area) where
+module _ (r : Route) (area : List ℕ) (room : r .middle .count ≤ length area) where
   abbrev middle : List ℕ
-  middle = take (r .count) area
+  middle = take (r .middle .count) area
 
-  middle-size : length middle ≡ r .count
-  middle-size = length-take-le (r .count) area room
+  middle-size : length middle ≡ r .middle .count
+  middle-size = length-take-le (r .middle .count) area room
 
   pub numbers-size : length (numbers-of r area) ≡ size-of r
   unfolding numbers-of size-of
@@ -105,26 +122,26 @@ module _ (r : Route) (area : List ℕ) (room : r .count ≤ length area) where
     unfolding numbers-of
     number-first h = sym (in-front (numbers (part-of (r .head))) middle (numbers (part-of (r .tail))) 0 first j first-size h ∙ part-number (r .head) j (omega arith))
 
-    pub number-middle : first ≤ j → j - first < r .count → getD area (j - first) 0 ≡ getD (numbers-of r area) j 0
+    pub number-middle : first ≤ j → j - first < r .middle .count → getD area (j - first) 0 ≡ getD (numbers-of r area) j 0
     unfolding numbers-of
     number-middle h k =
         sym (in-middle (numbers (part-of (r .head))) middle (numbers (part-of (r .tail))) 0 first j first-size h (omega (arith, middle-size))
-        ∙ getD-take (r .count) area (j - first) 0 k)
+        ∙ getD-take (r .middle .count) area (j - first) 0 k)
 
-    pub number-last : first ≤ j → r .count ≤ j - first → j < size-of r → r .tail .road .number ≡ getD (numbers-of r area) j 0
+    pub number-last : first ≤ j → r .middle .count ≤ j - first → j < size-of r → r .tail .road .number ≡ getD (numbers-of r area) j 0
     unfolding numbers-of size-of
     number-last h k l =
-        sym (in-back (numbers (part-of (r .head))) middle (numbers (part-of (r .tail))) 0 first j first-size (r .count) middle-size h k
-        ∙ part-number (r .tail) (j - first - r .count) (omega arith))
+        sym (in-back (numbers (part-of (r .head))) middle (numbers (part-of (r .tail))) 0 first j first-size (r .middle .count) middle-size h k
+        ∙ part-number (r .tail) (j - first - r .middle .count) (omega arith))
 
 -- ---- over roads of the sheet t, by their numbers
 
 module _ {t : Sheet} {c : Counts} {r : Route} {area : List ℕ} (known : Known t c r area) where
   abbrev between : List Coverage
-  between = map whole (map (road-at t) (take (r .count) area))
+  between = map whole (map (road-at t) (take (r .middle .count) area))
 
-  between-size : length between ≡ r .count
-  between-size = length-map (map (road-at t) (take (r .count) area)) whole ∙ length-map (take (r .count) area) (road-at t) ∙ middle-size r area (known .room)
+  between-size : length between ≡ r .middle .count
+  between-size = length-map (map (road-at t) (take (r .middle .count) area)) whole ∙ length-map (take (r .middle .count) area) (road-at t) ∙ middle-size r area (known .room)
 
   -- k stands for road j
   abbrev Covers : Cover → ℕ → Type 0
@@ -146,22 +163,28 @@ module _ {t : Sheet} {c : Counts} {r : Route} {area : List ℕ} (known : Known t
         (own .0, λ d. own-part (r .head) (own .1) ∙ sym (in-front (part-of (r .head)) between (part-of (r .tail)) d first j is h ∙ part-at (r .head) j inside d))
 
     module _ (h : first ≤ j) where
-      pub cover-middle : j - first < r .count → (m : Float) → m ≡ road-at t (getD area (j - first) 0) .metres → Covers record { road = getD area (j - first) 0; metres = m } j
+      pub cover-middle : j - first < r .middle .count → (m : Float) → m ≡ road-at t (getD area (j - first) 0) .metres → Covers record { road = getD area (j - first) 0; metres = m } j
       unfolding whole
       cover-middle k m e =
           let i = j - first in
-          let ks = take (r .count) area in
+          let ks = take (r .middle .count) area in
           let size = middle-size r area (known .room) in (
             known .numbers i k,
             λ d. ap (λ (x : Float). record { road = road-at t (getD area i 0); metres = x }) e
                 ∙ sym (in-middle (part-of (r .head)) between (part-of (r .tail)) d first j is h (omega (arith, between-size))
                 ∙ getD-map whole (map (road-at t) ks) i no-road d (omega (arith, length-map ks (road-at t)))
-                ∙ ap whole (getD-map (road-at t) ks i 0 no-road (omega arith) ∙ ap (road-at t) (getD-take (r .count) area i 0 k))),
+                ∙ ap whole (getD-map (road-at t) ks i 0 no-road (omega arith) ∙ ap (road-at t) (getD-take (r .middle .count) area i 0 k))),
           )
 
-      pub cover-last : r .count ≤ j - first → j < length (covers t r area) → Covers record { road = r .tail .road .number; metres = r .tail .metres } j
+      pub cover-last : r .middle .count ≤ j - first → j < length (covers t r area) → Covers record { road = r .tail .road .number; metres = r .tail .metres } j
       cover-last k l =
-          let at = j - first - r .count in
+          let at = j - first - r .middle .count in
           let inside : at < length (part-of (r .tail)) = omega (arith, between-size, length-three (part-of (r .head)) between (part-of (r .tail))) in
           let own = known .tail (part-kept (r .tail) at inside) in
-          (own .0, λ d. own-part (r .tail) (own .1) ∙ sym (in-back (part-of (r .head)) between (part-of (r .tail)) d first j is (r .count) between-size h k ∙ part-at (r .tail) at inside d))
+          (own .0, λ d. own-part (r .tail) (own .1) ∙ sym (in-back (part-of (r .head)) between (part-of (r .tail)) d first j is (r .middle .count) between-size h k ∙ part-at (r .tail) at inside d))
+
+-- ---- a middle without roads
+
+pub no-middle-written : (t : Sheet) (came : List ℕ) (m : Middle) (out : List ℕ) → m .count ≡ 0 → out ≡ middle-numbers t came m ++ drop (m .count) out
+unfolding back-way
+no-middle-written t came m out e = sym (ap (λ (k : ℕ). back-way (road-at t) came k (m .goal) ++ drop k out) e)

@@ -1,21 +1,24 @@
 -- What a leg leaves: its roads behind those already written, and the metres covered of each road, both by the numbers of the roads.
 use Prim.Native.Nat.{ℕ, _+_, _≤_, _<_}
 use mathlib.Core.Path.{_≡_}
-use mathlib.Core.Logic.{_≢_}
+use mathlib.Core.Logic.{_⊎_, _≢_}
 use mathlib.Core.Bool.{Bool, true, false, cond}
 use mathlib.Core.Option.{Option, none, some}
 use mathlib.Core.List.{List, [], _∷_, _++_, map}
 use lib.Dec.{eqb}
-use lib.ListN.{length, getD, take}
+use lib.ListN.{length, getD, take, drop}
 use lib.Ieee.{Float, nan}
 use Rattle.model.specs.declared.Counts.{Counts}
-use Rattle.model.specs.Lists.{maybe, fold, tab}
+use Rattle.model.specs.Lists.{last, maybe, fold, tab}
 use Rattle.model.specs.Sheet.{Sheet, road-at}
 use Rattle.model.specs.Legs.{Coverage}
+use Rattle.model.specs.Legs as legs
 use Rattle.model.specs.Decode.{cover}
+use Rattle.rules.specs.declared.Middle.{Middle}
 use Rattle.rules.specs.declared.Part.{Part}
 use Rattle.rules.specs.declared.Route.{Route}
-use Rattle.rules.specs.Code.{part-of, path-of}
+use Rattle.rules.specs.Code.{part-of, with-middle}
+use Rattle.search.specs.Areas.{back-way, LeadsBack}
 use Rattle.search.specs.Answers.{Numbers}
 use Rattle.courses.specs.declared.Cover.{Cover}
 use Rattle.courses.specs.declared.Last.{Last}
@@ -25,13 +28,25 @@ use Rattle.courses.specs.declared.Primary.the-variants as P
 
 -- ---- a route on the sheet t
 
--- its coverages, with its middle in the front of an area
+-- over the roads of its middle, whose numbers are in the front of an area
+abbrev pub path-of : Sheet → Route → List ℕ → legs.Route
+path-of t r area = with-middle r (map (road-at t) (take (r .middle .count) area))
+
+-- its coverages
 abbrev pub covers : Sheet → Route → List ℕ → List Coverage
-covers t r area = path-of (road-at t) r area .coverages
+covers t r area = path-of t r area .coverages
+
+-- the numbers of its middle: the marks lead back over them
+abbrev pub middle-numbers : Sheet → List ℕ → Middle → List ℕ
+middle-numbers t came m = back-way (road-at t) came (m .count) (m .goal)
+
+-- they can be walked
+abbrev pub Walkable : Sheet → Counts → List ℕ → Middle → Type 0
+Walkable t c came m = 0 < m .count → (m .goal < c .n) × (c .n ≤ length came) × LeadsBack (road-at t) (c .e) came (m .count) (m .goal)
 
 -- how many roads it has
 unfoldable pub size-of : Route → ℕ
-size-of r = length (part-of (r .head)) + r .count + length (part-of (r .tail))
+size-of r = length (part-of (r .head)) + r .middle .count + length (part-of (r .tail))
 
 -- a terminal road that is kept is one of the sheet's e roads
 abbrev pub Own : Sheet → ℕ → Part → Type 0
@@ -39,9 +54,9 @@ Own t e p = p .kept ≡ true → (p .road .number < e) × (road-at t (p .road .n
 
 -- A route over roads of the sheet: fewer in its middle than there are nodes.
 pub record Known (t : Sheet) (c : Counts) (r : Route) (area : List ℕ) : Type 0 where
-  pub few : r .count < c .n
-  pub room : r .count ≤ length area
-  pub numbers : Numbers (c .e) (r .count) area
+  pub few : r .middle .count < c .n
+  pub room : r .middle .count ≤ length area
+  pub numbers : Numbers (c .e) (r .middle .count) area
   pub head : Own t (c .e) (r .head)
   pub tail : Own t (c .e) (r .tail)
 
@@ -52,7 +67,7 @@ numbers cs = map (λ (x : Coverage). x .road .number) cs
 
 -- the numbers of a route's roads in travel order
 unfoldable pub numbers-of : Route → List ℕ → List ℕ
-numbers-of r area = numbers (part-of (r .head)) ++ take (r .count) area ++ numbers (part-of (r .tail))
+numbers-of r area = numbers (part-of (r .head)) ++ take (r .middle .count) area ++ numbers (part-of (r .tail))
 
 -- the last number written, if there is one
 unfoldable pub last-of : Last → Option ℕ
@@ -63,6 +78,18 @@ last-of L.Nothing = none
 unfoldable pub fresh : Option ℕ → List ℕ → List ℕ
 fresh o [] = []
 fresh o (x ∷ xs) = maybe o (x ∷ xs) (λ y. cond (eqb y x) xs (x ∷ xs))
+
+-- how many of the roads ns are skipped behind the road o: the first one where it is that road
+abbrev pub Skips : Option ℕ → List ℕ → ℕ → Type 0
+Skips o ns k = ((k ≡ 0) × (ns ≡ fresh o ns)) ⊎ ((k ≡ 1) × (0 < length ns) × (o ≡ some (getD ns 0 0)) × (drop 1 ns ≡ fresh o ns))
+
+-- A leg's roads ns behind the first n of `ids`, from the place `from` on: there, or over the last one where it is the first of them.
+pub record Appended (ids : List ℕ) (n : ℕ) (ns ids₁ : List ℕ) (from : ℕ) : Type 0 where
+  pub near : (from ≤ n) × (n ≤ from + 1)
+  pub behind : n ≤ from + length ns
+  pub size : length ids₁ ≡ length ids
+  pub path : take (from + length ns) ids₁ ≡ take n ids ++ fresh (last (take n ids)) ns
+  pub roads : take (length ns) (drop from ids₁) ≡ ns
 
 -- ---- coverage
 

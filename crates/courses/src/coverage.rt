@@ -19,7 +19,7 @@ use rules::Route;
 use sheet::roads;
 
 // Road j of a route, with the metres that are covered of it.
-fn cover_at(s: &[u8], c: Counts, r: Route, area: &[usize], j: usize) -> Cover
+fn cover_at(s: &[u8], c: Counts, r: Route, area: &[u64], j: usize) -> Cover
     requires { ⌜ WellFormed (now s) c × Known (sheet-of (now s) c) c r (now area) × (j < length (covers (sheet-of (now s) c) r (now area))) ⌝ }
     ensures { λ k. ⌜ (k .road < c .e) × ((d : Coverage) → coverage-of (sheet-of (now (s .entry)) c) k ≡ getD (covers (sheet-of (now (s .entry)) c) r (now (area .entry))) j d) ⌝ }
 {
@@ -31,8 +31,8 @@ fn cover_at(s: &[u8], c: Counts, r: Route, area: &[usize], j: usize) -> Cover
         };
     }
     let i = j - first;
-    if i < r.count {
-        let road = area[i];
+    if i < r.middle.count {
+        let road = area[i] as usize;
         let metres = roads::metres(s, c, road);
         return Cover { road, metres };
     }
@@ -82,7 +82,7 @@ pub fn cover_leg(
     c: Counts,
     summed: bool,
     r: Route,
-    area: &[usize],
+    area: &[u64],
     covered: &mut [usize],
     coverage: &mut [f64],
     n0: usize,

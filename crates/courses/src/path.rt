@@ -1,13 +1,19 @@
 // The roads of a leg in the answer list, by their numbers.
 ghost use mathlib.Core.Path.{_≡_};
+ghost use mathlib.Core.List.{_++_};
 ghost use Prim.Native.Nat.{_+_, _≤_, _<_};
 ghost use lib.ListN.{length, getD, take, drop};
+ghost use Rattle.model.specs.Judge.{WellFormed};
+ghost use Rattle.model.specs.Sheet.{sheet-of};
 ghost use Rattle.model.specs.Lists.{last};
 ghost use Rattle.rules.specs.Code.{part-of};
-ghost use Rattle.courses.specs.Left.{size-of, numbers-of, last-of, fresh};
+ghost use Rattle.courses.specs.Left.{size-of, numbers, numbers-of, middle-numbers, Walkable, last-of, fresh, Skips, Appended};
 use crate::Last;
+use model::Counts;
+use rules::Middle;
 use rules::Part;
 use rules::Route;
+use search::route;
 
 // The last of the first n numbers.
 pub fn last_written(ids: &[u64], n: usize) -> Last
@@ -31,59 +37,94 @@ pub fn terminals(p: Part) -> usize
 
 // How many roads a route has, where that many fit.
 pub fn count_roads(r: Route) -> usize
-    requires { ⌜ r .count + 2 ≤ 18446744073709551615 ⌝ }
-    ensures { λ m. ⌜ (m ≡ size-of r) × (m ≤ r .count + 2) ⌝ }
+    requires { ⌜ r .middle .count + 2 ≤ 18446744073709551615 ⌝ }
+    ensures { λ m. ⌜ (m ≡ size-of r) × (m ≤ r .middle .count + 2) ⌝ }
 {
     let first = terminals(r.head);
     let last = terminals(r.tail);
-    first + r.count + last
+    first + r.middle.count + last
 }
 
-// The number of road j of a route.
-fn number_at(r: Route, area: &[usize], j: usize) -> usize
-    requires { ⌜ (r .count ≤ length (now area)) × (j < size-of r) ⌝ }
-    ensures { λ k. ⌜ k ≡ getD (numbers-of r (now (area .entry))) j 0 ⌝ }
+// The number of a route's first road.
+fn first_number(s: &[u8], c: Counts, r: Route, came_from: &[usize]) -> usize
+    requires { ⌜ WellFormed (now s) c × Walkable (sheet-of (now s) c) c (now «came_from») (r .middle) × (0 < size-of r) ⌝ }
+    ensures { λ k. ⌜ k ≡ getD (numbers-of r (middle-numbers (sheet-of (now (s .entry)) c) (now («came_from» .entry)) (r .middle))) 0 0 ⌝ }
 {
-    let first = terminals(r.head);
-    if j < first {
+    if r.head.kept {
         return r.head.road.number;
     }
-    let i = j - first;
-    if i < r.count {
-        return area[i];
+    let n = r.middle.count;
+    if 0 < n {
+        return route::first_back(s, c, came_from, r.middle.goal, n);
     }
     r.tail.road.number
 }
 
-// 1 where the first of a route's m roads is the last one written.
-fn skip_of(last: Last, r: Route, area: &[usize], m: usize) -> usize
-    requires { ⌜ (r .count ≤ length (now area)) × (m ≡ size-of r) ⌝ }
-    ensures { λ k. ⌜ (k ≤ m) × (drop k (numbers-of r (now (area .entry))) ≡ fresh (last-of last) (numbers-of r (now (area .entry)))) ⌝ }
+// 1 where a route's first road is the last one written, which is then not written again.
+fn skip_of(s: &[u8], c: Counts, last: Last, r: Route, came_from: &[usize]) -> usize
+    requires { ⌜ WellFormed (now s) c × Walkable (sheet-of (now s) c) c (now «came_from») (r .middle) × (r .middle .count + 2 ≤ 18446744073709551615) ⌝ }
+    ensures { λ k. ⌜ Skips (last-of last) (numbers-of r (middle-numbers (sheet-of (now (s .entry)) c) (now («came_from» .entry)) (r .middle))) k ⌝ }
 {
-    if m == 0 {
-        return 0;
-    }
-    let first = number_at(r, area, 0) as u64;
     let Last::Road(k) = last else {
         return 0;
     };
+    let m = count_roads(r);
+    if m == 0 {
+        return 0;
+    }
+    let first = first_number(s, c, r, came_from) as u64;
     if k == first { 1 } else { 0 }
 }
 
-// The roads of a route to the front of `out`, but for a first one that is the last written: how many.
-pub fn write_leg(last: Last, r: Route, area: &[usize], out: &mut [u64]) -> usize
-    requires { ⌜ (r .count ≤ length (now area)) × (r .count + 2 ≤ length (now out)) ⌝ }
-    ensures { λ k. ⌜ (k ≤ r .count + 2) × (take k (now (out .exit)) ≡ fresh (last-of last) (numbers-of r (now (area .entry)))) ⌝ }
+// A terminal road that is kept, to the front of `out`: how many.
+fn write_terminal(p: Part, out: &mut [u64]) -> usize
+    requires { ⌜ 0 < length (now out) ⌝ }
+    ensures { λ k. ⌜ (k ≡ length (part-of p)) × (k ≤ 1) × (now (out .exit) ≡ numbers (part-of p) ++ drop k (now (out .entry))) ⌝ }
 {
-    let m = count_roads(r);
-    let skip = skip_of(last, r, area, m);
-    let n = m - skip;
-    let mut i = 0;
-    while i < n {
-        let j = i + skip;
-        let k = number_at(r, area, j);
-        out[i] = k as u64;
-        i += 1;
+    if p.kept {
+        out[0] = p.road.number as u64;
+        return 1;
     }
-    n
+    0
+}
+
+// The roads between, to the front of `out`.
+fn write_middle(s: &[u8], c: Counts, m: Middle, came_from: &[usize], out: &mut [u64])
+    requires { ⌜ WellFormed (now s) c × Walkable (sheet-of (now s) c) c (now «came_from») m × (m .count ≤ length (now out)) ⌝ }
+    ensures { λ _. ⌜ now (out .exit) ≡ middle-numbers (sheet-of (now (s .entry)) c) (now («came_from» .entry)) m ++ drop (m .count) (now (out .entry)) ⌝ }
+{
+    if 0 < m.count {
+        route::write_back(s, c, came_from, m.goal, m.count, out);
+    }
+}
+
+// The roads of a route in travel order, to the front of `out`.
+fn write_leg(s: &[u8], c: Counts, r: Route, came_from: &[usize], out: &mut [u64])
+    requires { ⌜ WellFormed (now s) c × Walkable (sheet-of (now s) c) c (now «came_from») (r .middle) × (r .middle .count + 2 ≤ length (now out)) ⌝ }
+    ensures { λ _. ⌜ now (out .exit) ≡ numbers-of r (middle-numbers (sheet-of (now (s .entry)) c) (now («came_from» .entry)) (r .middle)) ++ drop (size-of r) (now (out .entry)) ⌝ }
+{
+    let first = write_terminal(r.head, out);
+    let m = r.middle;
+    write_middle(s, c, m, came_from, &mut out[first..]);
+    let last = first + m.count;
+    write_terminal(r.tail, &mut out[last..]);
+}
+
+// The roads of a route behind the first n of `ids`; over the last of these where it is the route's first road, so that none stands twice. From which place on they stand.
+pub fn append_leg(
+    s: &[u8],
+    c: Counts,
+    r: Route,
+    came_from: &[usize],
+    n: usize,
+    ids: &mut [u64],
+) -> usize
+    requires { ⌜ WellFormed (now s) c × Walkable (sheet-of (now s) c) c (now «came_from») (r .middle) × (n + r .middle .count + 2 ≤ length (now ids)) ⌝ }
+    ensures { λ k. ⌜ Appended (now (ids .entry)) n (numbers-of r (middle-numbers (sheet-of (now (s .entry)) c) (now («came_from» .entry)) (r .middle))) (now (ids .exit)) k ⌝ }
+{
+    let last = last_written(ids, n);
+    let skip = skip_of(s, c, last, r, came_from);
+    let from = n - skip;
+    write_leg(s, c, r, came_from, &mut ids[from..]);
+    from
 }

@@ -1,9 +1,9 @@
 -- What a leg's answers stand for in the definition, and what its areas hold.
 use Prim.Native.Nat.{ℕ, _+_, _<_}
 use mathlib.Core.Path.{_≡_}
-use mathlib.Core.Bool.{true}
 use mathlib.Core.List.{List}
 use lib.Ieee.{Float}
+use Rattle.model.specs.declared.Counts.{Counts}
 use Rattle.model.specs.declared.Road.{Road}
 use Rattle.model.specs.declared.Limits.{Limits}
 use Rattle.model.specs.Lists.{keep}
@@ -14,13 +14,15 @@ use Rattle.model.specs.Legs.{Seek, best, no-path, heap-full, sought, next-pair}
 use Rattle.model.specs.Legs as legs
 use Rattle.model.specs.Decode.{seek-of}
 use Rattle.bounds.specs.Amounts.{Amount}
-use Rattle.rules.specs.declared.Best.{Best}
-use Rattle.rules.specs.Code.{path-of, best-of}
+use Rattle.rules.specs.declared.Middle.{Middle}
+use Rattle.rules.specs.Code.{with-middle, no-middle, middle-in, best-of}
 use Rattle.plans.specs.declared.Phase.{Phase}
 use Rattle.plans.specs.declared.Phase.the-variants as H
 use Rattle.plans.specs.declared.State.{State}
-use Rattle.plans.specs.Turns.{count-of, turn-of}
-use Rattle.search.specs.Answers.{answer, Numbers}
+use Rattle.plans.specs.Turns.{turn-of}
+use Rattle.search.specs.declared.Search.{Search}
+use Rattle.search.specs.declared.Search.the-variants as E
+use Rattle.search.specs.Answers.{told, WayBack}
 use Rattle.legs.specs.declared.Sought.{Sought}
 use Rattle.legs.specs.declared.Sought.the-variants as S
 use Rattle.legs.specs.declared.middle.Way.{Way}
@@ -42,42 +44,46 @@ Priced b = Amount (b .constraints .«slip_road_cost_penalty») × Amount (b .con
 
 -- ---- the answers
 
--- what lies between two roads: known without a search, or found by one within a bound
-unfoldable pub by-way : (ℕ → Road) → List ℕ → (Float → Found) → Way → Found
-by-way roads area seek (W.Known m) = answer roads m area
-by-way roads area seek (W.Within bound) = seek bound
+-- f lies between two roads: known without a search, or found by one within a bound
+unfoldable pub WayIs : (Float → Found) → Found → Way → Type 0
+WayIs search f (W.Known m) = m ≡ told f
+WayIs search f (W.Within bound) = search bound ≡ f
 
 -- the leg's end after its pairs: the best so far, or the heap is used up
-unfoldable pub end-of : (ℕ → Road) → State → List ℕ → legs.Sought
-end-of roads st area = next-pair (turn-of (st .phase) (best-of roads (st .best) area)) sought
+unfoldable pub end-of : Seek → State → legs.Sought
+end-of seek st = next-pair (turn-of (st .phase) (best-of seek (st .best))) sought
 
-unfoldable pub sought-of : (ℕ → Road) → Sought → List ℕ → legs.Sought
-sought-of roads (S.Best r) area = best (path-of roads r area)
-sought-of roads S.NoPath area = no-path
-sought-of roads S.HeapFull area = heap-full
+unfoldable pub sought-of : Seek → Sought → legs.Sought
+sought-of seek (S.Best r) = best (with-middle r (middle-in seek (r .middle)))
+sought-of seek S.NoPath = no-path
+sought-of seek S.HeapFull = heap-full
+
+-- the middle of the leg's route
+unfoldable pub winner-of : Sought → Middle
+winner-of (S.Best r) = r .middle
+winner-of S.NoPath = no-middle
+winner-of S.HeapFull = no-middle
 
 -- the place of the next pair among n: past the last one where the leg is decided
 unfoldable pub place-after : Phase → ℕ → ℕ → ℕ
 place-after H.On t n = t + 1
 place-after H.Full t n = n
 
--- ---- what the areas hold
-
--- k roads, fewer than the n nodes, by their numbers below e
-abbrev pub Roads : ℕ → ℕ → ℕ → List ℕ → Type 0
-Roads n e k area = (k < n) × Numbers e k area
+-- ---- the roads, by the marks
 
 -- what is known without a search has no roads
 unfoldable pub Brief : Way → Type 0
-Brief (W.Known m) = count-of m ≡ 0
+Brief (W.Known (E.Found cost n)) = n ≡ 0
+Brief (W.Known E.Nothing) = Unit {0}
+Brief (W.Known E.Full) = Unit {0}
 Brief (W.Within bound) = Unit {0}
 
--- the middle of the best route so far
-abbrev pub Fits : ℕ → ℕ → Best → List ℕ → Type 0
-Fits n e b area = b .found ≡ true → Roads n e (b .route .count) area
+-- the marks lead back over a way that has roads
+unfoldable pub LedBy : Sheet → Counts → ℕ → List ℕ → Search → List Road → Type 0
+LedBy t c goal came (E.Found cost n) way = 0 < n → WayBack t c goal came n way
+LedBy t c goal came E.Nothing way = Unit {0}
+LedBy t c goal came E.Full way = Unit {0}
 
--- the middle of the leg's route
-unfoldable pub Holds : ℕ → ℕ → Sought → List ℕ → Type 0
-Holds n e (S.Best r) area = Roads n e (r .count) area
-Holds n e S.NoPath area = Unit {0}
-Holds n e S.HeapFull area = Unit {0}
+-- and over the middle of a route
+abbrev pub Led : Sheet → Counts → Seek → List ℕ → Middle → Type 0
+Led t c seek came m = 0 < m .count → WayBack t c (m .goal) came (m .count) (middle-in seek m)

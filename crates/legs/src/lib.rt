@@ -8,22 +8,22 @@ use model::Limits;
 use plans::Phase;
 use plans::State;
 use rules::Best;
+use rules::Middle;
 use rules::Route;
 use rules::routes;
 use rules::same_edge;
 ghost use mathlib.Core.Path.{_≡_};
-ghost use mathlib.Core.List.{List};
 ghost use Prim.Native.Nat.{ℕ, _<_};
-ghost use Rattle.model.specs.declared.Road.{Road};
 ghost use Rattle.model.specs.Judge.{WellFormed};
-ghost use Rattle.model.specs.Sheet.{sheet-of, road-at};
-ghost use Rattle.model.specs.Legs.{sought, find-best-path};
+ghost use Rattle.model.specs.Sheet.{sheet-of};
+ghost use Rattle.model.specs.Legs.{Seek, sought, find-best-path};
 ghost use Rattle.candidates.specs.Found.{held, Ready};
 ghost use Rattle.rules.specs.Code.{best-of};
-ghost use Rattle.search.specs.Areas.{LegRoom};
-ghost use Rattle.legs.specs.Found.{seek-at, end-of, sought-of, Priced, Fits, Holds};
+ghost use Rattle.plans.specs.Turns.{Remembers};
+ghost use Rattle.search.specs.Areas.{SearchRoom};
+ghost use Rattle.legs.specs.Found.{seek-at, end-of, sought-of, winner-of, Priced, Led};
 
-// What a leg finds: its best route, whose middle is in the front of an area; no path; or the heap used up.
+// What a leg finds: its best route, whose middle its search finds; no path; or the heap used up.
 pub enum Sought {
     Best(Route),
     NoPath,
@@ -32,8 +32,8 @@ pub enum Sought {
 
 // The best route, if there is one.
 fn best_or_none(best: Best) -> Sought
-    ensures means { λ r. ⌜ ((roads : ℕ → Road) (area : List ℕ) → sought-of roads r area ≡ sought (best-of roads best area)) ⌝ }
-    ensures holds { λ r. ⌜ ((n e : ℕ) (area : List ℕ) → Fits n e best area → Holds n e r area) ⌝ }
+    ensures means { λ r. ⌜ ((seek : Seek) → sought-of seek r ≡ sought (best-of seek best)) ⌝ }
+    ensures remembers { λ r. ⌜ ((seek : Seek) (n : ℕ) → Remembers seek n (best .route .middle) → Remembers seek n (winner-of r)) ⌝ }
 {
     if best.found {
         let route = best.route;
@@ -44,8 +44,8 @@ fn best_or_none(best: Best) -> Sought
 
 // How a leg ends, by the state after its pairs.
 fn ended(st: State) -> Sought
-    ensures means { λ r. ⌜ ((roads : ℕ → Road) (area : List ℕ) → sought-of roads r area ≡ end-of roads st area) ⌝ }
-    ensures holds { λ r. ⌜ ((n e : ℕ) (area : List ℕ) → Fits n e (st .best) area → Holds n e r area) ⌝ }
+    ensures means { λ r. ⌜ ((seek : Seek) → sought-of seek r ≡ end-of seek st) ⌝ }
+    ensures remembers { λ r. ⌜ ((seek : Seek) (n : ℕ) → Remembers seek n (st .best .route .middle) → Remembers seek n (winner-of r)) ⌝ }
 {
     let phase = st.phase;
     let best = st.best;
@@ -55,7 +55,24 @@ fn ended(st: State) -> Sought
     }
 }
 
-// The best route of a leg from its starts to its ends. A solution on one road wins outright; else the pairs decide.
+// The middle of the route that a leg found; without roads where it found none.
+fn winner(found: Sought) -> Middle
+    ensures { λ m. ⌜ m ≡ winner-of found ⌝ }
+{
+    let none = Middle {
+        start: 0,
+        goal: 0,
+        bound: 0.0,
+        count: 0,
+    };
+    match found {
+        Sought::Best(route) => route.middle,
+        Sought::NoPath => none,
+        Sought::HeapFull => none,
+    }
+}
+
+// The best route of a leg from its starts to its ends. A solution on one road wins outright; else the pairs decide, and the winning pair is searched once more, so that the marks lead back over its roads.
 pub fn find_best_path(
     s: &[u8],
     c: Counts,
@@ -65,16 +82,14 @@ pub fn find_best_path(
     slots: usize,
     labels: &mut [f64],
     came_from: &mut [usize],
-    route: &mut [usize],
-    best_route: &mut [usize],
     entries: &mut [f64],
     links: &mut [usize],
 ) -> Sought
     requires { ⌜ WellFormed (now s) c × Priced b × (0 < c .n) × Ready c starts × Ready c ends ⌝ }
-    requires { ⌜ LegRoom (c .n) slots (now labels) (now «came_from») (now route) (now «best_route») (now entries) (now links) ⌝ }
-    ensures means { λ r. ⌜ sought-of (road-at (sheet-of (now (s .entry)) c)) r (now («best_route» .exit))
+    requires { ⌜ SearchRoom (c .n) slots (now labels) (now «came_from») (now entries) (now links) ⌝ }
+    ensures means { λ r. ⌜ sought-of (seek-at (sheet-of (now (s .entry)) c) slots b) r
         ≡ find-best-path b (seek-at (sheet-of (now (s .entry)) c) slots b) (held (sheet-of (now (s .entry)) c) starts) (held (sheet-of (now (s .entry)) c) ends) ⌝ }
-    ensures holds { λ r. ⌜ Holds (c .n) (c .e) r (now («best_route» .exit)) ⌝ }
+    ensures led { λ r. ⌜ Led (sheet-of (now (s .entry)) c) c (seek-at (sheet-of (now (s .entry)) c) slots b) (now («came_from» .exit)) (winner-of r) ⌝ }
 {
     let same = same_edge::try_same_edge_solution(s, c, b, starts, ends);
     if same.found {
@@ -90,10 +105,11 @@ pub fn find_best_path(
         slots,
         labels,
         came_from,
-        route,
-        best_route,
         entries,
         links,
     );
-    ended(st)
+    let found = ended(st);
+    let m = winner(found);
+    middle::search_again(s, c, b, m, slots, labels, came_from, entries, links);
+    found
 }

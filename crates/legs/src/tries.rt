@@ -16,15 +16,15 @@ ghost use mathlib.Core.Option.{none};
 ghost use Prim.Native.Nat.{_≤_, _<_};
 ghost use Rattle.model.specs.Lists.{sort};
 ghost use Rattle.model.specs.Judge.{WellFormed};
-ghost use Rattle.model.specs.Sheet.{sheet-of, road-at};
+ghost use Rattle.model.specs.Sheet.{sheet-of};
 ghost use Rattle.model.specs.Legs.{pair, pairs, by-sum, try-pair, try-pairs};
 ghost use Rattle.candidates.specs.Found.{at-road, held, Ready};
 ghost use Rattle.rules.specs.Code.{best-of};
-ghost use Rattle.plans.specs.Turns.{turn-of};
-ghost use Rattle.search.specs.Areas.{LegRoom};
-ghost use Rattle.legs.specs.Found.{seek-at, end-of, place-after, Priced, Fits};
+ghost use Rattle.plans.specs.Turns.{turn-of, Remembers};
+ghost use Rattle.search.specs.Areas.{SearchRoom};
+ghost use Rattle.legs.specs.Found.{seek-at, end-of, place-after, Priced};
 
-// One pair: what it asks for, the search if it asks for one, and what comes of it. The best route's middle is in the front of `best_route`.
+// One pair: what it asks for, the search if it asks for one, and what comes of it. The best so far remembers its search.
 pub fn try_pair(
     s: &[u8],
     c: Counts,
@@ -35,16 +35,14 @@ pub fn try_pair(
     slots: usize,
     labels: &mut [f64],
     came_from: &mut [usize],
-    route: &mut [usize],
-    best_route: &mut [usize],
     entries: &mut [f64],
     links: &mut [usize],
 ) -> State
-    requires { ⌜ WellFormed (now s) c × Priced b × (start .road < c .e) × (end .road < c .e) × Fits (c .n) (c .e) best (now «best_route») ⌝ }
-    requires { ⌜ LegRoom (c .n) slots (now labels) (now «came_from») (now route) (now «best_route») (now entries) (now links) ⌝ }
-    ensures means { λ t. ⌜ turn-of (t .phase) (best-of (road-at (sheet-of (now (s .entry)) c)) (t .best) (now («best_route» .exit)))
-        ≡ try-pair b (seek-at (sheet-of (now (s .entry)) c) slots b) (best-of (road-at (sheet-of (now (s .entry)) c)) best (now («best_route» .entry))) (pair (at-road (sheet-of (now (s .entry)) c) start) (at-road (sheet-of (now (s .entry)) c) end)) ⌝ }
-    ensures fits { λ t. ⌜ Fits (c .n) (c .e) (t .best) (now («best_route» .exit)) ⌝ }
+    requires { ⌜ WellFormed (now s) c × Priced b × (start .road < c .e) × (end .road < c .e) ⌝ }
+    requires { ⌜ SearchRoom (c .n) slots (now labels) (now «came_from») (now entries) (now links) ⌝ }
+    ensures means { λ t. ⌜ turn-of (t .phase) (best-of (seek-at (sheet-of (now (s .entry)) c) slots b) (t .best))
+        ≡ try-pair b (seek-at (sheet-of (now (s .entry)) c) slots b) (best-of (seek-at (sheet-of (now (s .entry)) c) slots b) best) (pair (at-road (sheet-of (now (s .entry)) c) start) (at-road (sheet-of (now (s .entry)) c) end)) ⌝ }
+    ensures remembers { λ t. ⌜ (Remembers (seek-at (sheet-of (now (s .entry)) c) slots b) (c .n) (best .route .middle) → Remembers (seek-at (sheet-of (now (s .entry)) c) slots b) (c .n) (t .best .route .middle)) ⌝ }
 {
     let from = start.road;
     let to = end.road;
@@ -62,13 +60,10 @@ pub fn try_pair(
         slots,
         labels,
         came_from,
-        route,
         entries,
         links,
     );
-    let t = turns::settle(b, start, first, end, last, best, p, m);
-    middle::keep_roads(best_route, route, t.taken);
-    t
+    turns::settle(b, start, first, end, last, best, p, m)
 }
 
 // The place of the next pair among n: past the last one where the leg is decided.
@@ -92,16 +87,14 @@ pub fn try_pairs(
     slots: usize,
     labels: &mut [f64],
     came_from: &mut [usize],
-    route: &mut [usize],
-    best_route: &mut [usize],
     entries: &mut [f64],
     links: &mut [usize],
 ) -> State
     requires { ⌜ WellFormed (now s) c × Priced b × Ready c starts × Ready c ends ⌝ }
-    requires { ⌜ LegRoom (c .n) slots (now labels) (now «came_from») (now route) (now «best_route») (now entries) (now links) ⌝ }
-    ensures means { λ t. ⌜ end-of (road-at (sheet-of (now (s .entry)) c)) t (now («best_route» .exit))
+    requires { ⌜ SearchRoom (c .n) slots (now labels) (now «came_from») (now entries) (now links) ⌝ }
+    ensures means { λ t. ⌜ end-of (seek-at (sheet-of (now (s .entry)) c) slots b) t
         ≡ try-pairs b (seek-at (sheet-of (now (s .entry)) c) slots b) (sort by-sum (pairs (held (sheet-of (now (s .entry)) c) starts) (held (sheet-of (now (s .entry)) c) ends))) none ⌝ }
-    ensures fits { λ t. ⌜ Fits (c .n) (c .e) (t .best) (now («best_route» .exit)) ⌝ }
+    ensures remembers { λ t. ⌜ Remembers (seek-at (sheet-of (now (s .entry)) c) slots b) (c .n) (t .best .route .middle) ⌝ }
 {
     let count = starts.count * ends.count;
     let mut by_start = [0.0; MOST_TRIED];
@@ -119,7 +112,6 @@ pub fn try_pairs(
     let mut st = State {
         phase: Phase::On,
         best: unset,
-        taken: 0,
     };
     let mut t = 0;
     while t < count {
@@ -142,8 +134,6 @@ pub fn try_pairs(
             slots,
             labels,
             came_from,
-            route,
-            best_route,
             entries,
             links,
         );

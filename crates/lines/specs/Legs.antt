@@ -2,8 +2,7 @@
 use Prim.Native.Nat.{ℕ, _+_, _*_, _≤_, _<_}
 use mathlib.Core.Path.{_≡_}
 use mathlib.Core.Bool.{Bool, cond}
-use mathlib.Core.Option.{Option}
-use mathlib.Core.List.{List, map}
+use mathlib.Core.List.{List, _++_, map}
 use lib.Dec.{eqb}
 use lib.ListN.{take, drop}
 use lib.Ieee.{Float}
@@ -11,6 +10,7 @@ use Rattle.model.specs.declared.Counts.{Counts}
 use Rattle.model.specs.declared.Road.{Road}
 use Rattle.model.specs.declared.Limits.{Limits}
 use Rattle.model.specs.Numbers.{_⊕_, f0}
+use Rattle.model.specs.Lists.{last}
 use Rattle.model.specs.Sheet.{Sheet}
 use Rattle.model.specs.View.{limits-of, view}
 use Rattle.model.specs.Search.{bounded-astar}
@@ -23,7 +23,7 @@ use Rattle.legs.specs.Found.{seek-at}
 use Rattle.legs.specs.declared.Sought as legs
 use Rattle.legs.specs.declared.Sought.the-variants as S
 use Rattle.search.specs.Answers.{Numbers}
-use Rattle.courses.specs.Left.{Known, fresh, coverages-at, cover-all}
+use Rattle.courses.specs.Left.{path-of, middle-numbers, Walkable, Known, fresh, coverages-at, cover-all}
 use Rattle.lines.specs.declared.Segment.{Segment}
 use Rattle.lines.specs.declared.Walked.{Walked}
 use Rattle.lines.specs.declared.LegEnd.{LegEnd}
@@ -48,15 +48,21 @@ segment-as g = record { length-m = g .«length_m»; expected-m = g .«expected_m
 abbrev pub road-numbers : List Road → List ℕ
 road-numbers rs = map (λ (x : Road). x .number) rs
 
--- a route that a leg found runs over roads of the sheet
-unfoldable pub KnownAs : Sheet → Counts → legs.Sought → List ℕ → Type 0
-KnownAs t c (S.Best r) area = Known t c r area
-KnownAs t c S.NoPath area = Unit {0}
-KnownAs t c S.HeapFull area = Unit {0}
+-- what a leg found, over the roads that the marks lead back over
+unfoldable pub sought-by : Sheet → List ℕ → legs.Sought → Sought
+sought-by t came (S.Best r) = best (path-of t r (middle-numbers t came (r .middle)))
+sought-by t came S.NoPath = no-path
+sought-by t came S.HeapFull = heap-full
 
--- The route r of a leg, left behind the road o and n0 coverages ks: its roads in `out`, its coverages, its segment.
-pub record Walks (t : Sheet) (c : Counts) (summed : Bool) (dnp : Float) (o : Option ℕ) (ks : List Coverage) (n0 : ℕ) (r : Route) (out covered : List ℕ) (coverage : List Float) (w : Walked) : Type 0 where
-  pub roads : take (w .written) out ≡ fresh o (road-numbers (roads-of r))
+-- a route that a leg found runs over roads of the sheet, and the marks lead back over its middle
+unfoldable pub KnownAs : Sheet → Counts → legs.Sought → List ℕ → Type 0
+KnownAs t c (S.Best r) came = Known t c r (middle-numbers t came (r .middle)) × Walkable t c came (r .middle)
+KnownAs t c S.NoPath came = Unit {0}
+KnownAs t c S.HeapFull came = Unit {0}
+
+-- The route r of a leg, left behind the first n numbers of `ids` and n0 coverages ks: its roads in the list ids₁, its coverages, its segment.
+pub record Walks (t : Sheet) (c : Counts) (summed : Bool) (dnp : Float) (n : ℕ) (ids : List ℕ) (ks : List Coverage) (n0 : ℕ) (r : Route) (ids₁ covered : List ℕ) (coverage : List Float) (w : Walked) : Type 0 where
+  pub roads : take (n + w .written) ids₁ ≡ take n ids ++ fresh (last (take n ids)) (road-numbers (roads-of r))
   pub coverages : coverages-at t (w .covered) covered coverage ≡ cover-all summed ks (r .coverages)
   pub segment : segment-as (w .segment) ≡ record { length-m = r .total; expected-m = dnp; start-offset = r .start-offset; end-offset = r .end-offset }
   pub few : w .written ≤ c .n + 1
@@ -64,10 +70,10 @@ pub record Walks (t : Sheet) (c : Counts) (summed : Bool) (dnp : Float) (o : Opt
   pub below : Numbers (c .e) (w .covered) covered
 
 -- how a leg that finds `so` ends
-unfoldable pub Leaves : Sheet → Counts → Bool → Float → Option ℕ → List Coverage → ℕ → Sought → List ℕ → List ℕ → List Float → LegEnd → Type 0
-Leaves t c summed dnp o ks n0 so out covered coverage (E.Walked w) = (r : Route) × (so ≡ best r) × Walks t c summed dnp o ks n0 r out covered coverage w
-Leaves t c summed dnp o ks n0 so out covered coverage E.NoPath = so ≡ no-path
-Leaves t c summed dnp o ks n0 so out covered coverage E.HeapFull = so ≡ heap-full
+unfoldable pub Leaves : Sheet → Counts → Bool → Float → ℕ → List ℕ → List Coverage → ℕ → Sought → List ℕ → List ℕ → List Float → LegEnd → Type 0
+Leaves t c summed dnp n ids ks n0 so ids₁ covered coverage (E.Walked w) = (r : Route) × (so ≡ best r) × Walks t c summed dnp n ids ks n0 r ids₁ covered coverage w
+Leaves t c summed dnp n ids ks n0 so ids₁ covered coverage E.NoPath = so ≡ no-path
+Leaves t c summed dnp n ids ks n0 so ids₁ covered coverage E.HeapFull = so ≡ heap-full
 
 -- ---- all legs
 

@@ -1,94 +1,118 @@
 -- What `settle` promises, case by case.
-use mathlib.Core.Path.{_≡_, refl, ap, _∙_}
-use mathlib.Core.Logic.{inl, inr}
+use mathlib.Core.Path.{_≡_, refl, sym, ap, subst, _∙_}
 use mathlib.Core.Bool.{Bool, true, false, cond}
-use mathlib.Core.List.{List, [], map}
-use Prim.Native.Nat.{ℕ, _≤_}
+use mathlib.Core.List.{List, []}
+use Prim.Native.Nat.{ℕ, _<_}
 use native.Mathlib.Omega.{arith}
-use lib.ListN.{length, take, drop}
-use lib.Seq.{take-at, length-take-le}
+use lib.ListN.{length, take}
+use lib.Seq.{take-all}
 use lib.Ieee.{Float}
 use Rattle.model.specs.declared.Road.{Road}
 use Rattle.model.specs.declared.Limits.{Limits}
-use Rattle.model.specs.Legs.{Pair, over, improve, reached, settled, goes-on}
+use Rattle.model.specs.Search.{Found, found, none-found, full}
+use Rattle.model.specs.Legs.{Pair, Scored, Seek, over, improve, middle-of, reached, settled, goes-on}
+use Rattle.rules.specs.declared.Middle.{Middle}
 use Rattle.rules.specs.declared.Best.{Best}
-use Rattle.rules.specs.Code.{best-of}
+use Rattle.rules.specs.Code.{no-seek, best-of}
 use Rattle.search.specs.declared.Search.{Search}
 use Rattle.search.specs.declared.Search.the-variants as M
-use Rattle.search.specs.Answers.{answer}
+use Rattle.search.specs.Answers.{told, roads-in}
 use Rattle.plans.specs.declared.Plan.{Plan}
 use Rattle.plans.specs.declared.Plan.the-variants as P
 use Rattle.plans.specs.declared.Phase.the-variants as H
 use Rattle.plans.specs.declared.State.{State}
-use Rattle.plans.specs.Turns.{asked-of, count-of, turn-of, renewed, Comes}
+use Rattle.plans.specs.Turns.{asked-of, turn-of, Remembers, Comes}
 
--- the roads that are taken stand in front
-pub taken-front : (n : ℕ) (new old : List ℕ) → n ≤ length new → take n (renewed n new old) ≡ take n new
-taken-front n new old h = take-at (take n new) (drop n old) n (length-take-le n new h)
+-- ---- what a search tells of what it found
 
--- the better of the best so far and a route, by the test of their scores
-abbrev pub Better : Best → Best → State → Type 0
-Better best next r = Comes best r (next .route .count) (λ roads old new. goes-on (improve (best-of roads best old) (best-of roads next (renewed (next .route .count) new old))))
+pub told-found : (f : Found) (cost : Float) (n : ℕ) → M.Found cost n ≡ told f → (way : List Road) × (f ≡ found cost way) × (length way ≡ n)
+unfolding told
+told-found (found x way) cost n e = (way, cc e, cc e)
+told-found none-found cost n e = ([], cc e, cc e)
+told-found full cost n e = ([], cc e, cc e)
 
-module _ (best next : Best) (t : Bool)
-    (e : (roads : ℕ → Road) (old new : List ℕ) → cond t (best-of roads next new) (best-of roads best old) ≡ improve (best-of roads best old) (best-of roads next new)) where
-  abbrev n : ℕ
-  n = next .route .count
+pub told-none : (f : Found) → M.Nothing ≡ told f → f ≡ none-found
+unfolding told
+told-none (found x way) e = cc e
+told-none none-found e = refl
+told-none full e = cc e
 
-  pub next-taken : t ≡ true → Better best next (record { phase = H.On; best = next; taken = next .route .count })
+pub told-full : (f : Found) → M.Full ≡ told f → f ≡ full
+unfolding told
+told-full (found x way) e = cc e
+told-full none-found e = cc e
+told-full full e = refl
+
+-- all roads of a way that is found
+pub middle-found : (f : Found) (cost : Float) (way : List Road) (n : ℕ) → f ≡ found cost way → length way ≡ n → take n (roads-in f) ≡ way
+unfolding roads-in
+middle-found f cost way n e long = rw e (take-all n way (omega (arith, long)))
+
+-- ---- the better of the best so far and a route, by the test of their scores
+
+module _ (best next : Best) (t : Bool) (e : (seek : Seek) → cond t (best-of seek next) (best-of seek best) ≡ improve (best-of seek best) (best-of seek next)) (seek : Seek) (nodes : ℕ) where
+  pub next-taken : t ≡ true → Remembers seek nodes (next .route .middle) → Comes best (record { phase = H.On; best = next }) seek nodes (goes-on (improve (best-of seek best) (best-of seek next)))
   unfolding turn-of
-  next-taken w = record { few = omega arith; middle = inr refl; means = λ roads old new h. ap goes-on (rw w at (e roads old (renewed n new old))) }
+  next-taken w h = record { means = ap goes-on (rw w at (e seek)); remembers = λ old. h }
 
-  pub best-kept : t ≡ false → Better best next (record { phase = H.On; best = best; taken = 0 })
+  pub best-kept : t ≡ false → Comes best (record { phase = H.On; best = best }) seek nodes (goes-on (improve (best-of seek best) (best-of seek next)))
   unfolding turn-of
-  best-kept w = record { few = omega arith; middle = inl (refl, refl); means = λ roads old new h. ap goes-on (rw w at (e roads old (renewed n new old))) }
+  best-kept w = record { means = ap goes-on (rw w at (e seek)); remembers = λ old. old }
 
--- by what lies between the roads
-module _ (b : Limits) (q : Pair) (best : Best) (m : Search) where
-  abbrev pub Reached : State → Type 0
-  Reached r = Comes best r (count-of m) (λ roads old new. reached b q (best-of roads best old) (answer roads m new))
+-- ---- by what lies between the roads
 
-  pub by-none : m ≡ M.Nothing → Reached (record { phase = H.On; best = best; taken = 0 })
-  unfolding turn-of answer reached
-  by-none f = record { few = omega arith; middle = inl (refl, refl); means = λ roads old new h. rw f }
+module _ (b : Limits) (q : Pair) (best : Best) (seek : Seek) (nodes : ℕ) where
+  module _ (f : Found) where
+    abbrev pub Reached : State → Type 0
+    Reached r = Comes best r seek nodes (reached b q (best-of seek best) f)
 
-  pub by-full : m ≡ M.Full → Reached (record { phase = H.Full; best = best; taken = 0 })
-  unfolding turn-of answer reached
-  by-full f = record { few = omega arith; middle = inl (refl, refl); means = λ roads old new h. rw f }
+    pub by-none : M.Nothing ≡ told f → Reached (record { phase = H.On; best = best })
+    unfolding turn-of reached
+    by-none e = record { means = rw (told-none f e); remembers = λ old. old }
 
-  pub by-found : (cost : Float) (n : ℕ) → m ≡ M.Found cost n
-      → (next : Best) → next .route .count ≡ n → ((roads : ℕ → Road) (area : List ℕ) → best-of roads next area ≡ over b q cost (map roads (take n area)))
-      → (r : State) → Better best next r → Reached r
-  unfolding answer reached count-of
-  by-found cost n f next counts w r g = record {
-    few = rw f (let k = g .few in omega arith);
-    middle = g .middle;
-    means = λ roads old new h.
-        let fit : n ≤ length new = rw f at h in
-        g .means roads old new (rw counts fit)
-        ∙ ap (λ (k : ℕ). goes-on (improve (best-of roads best old) (best-of roads next (renewed k new old)))) counts
-        ∙ ap (λ s. goes-on (improve (best-of roads best old) s)) (w roads (renewed n new old) ∙ ap (λ (l : List ℕ). over b q cost (map roads l)) (taken-front n new old fit))
-        ∙ rw f;
-  }
+    pub by-full : M.Full ≡ told f → Reached (record { phase = H.Full; best = best })
+    unfolding turn-of reached
+    by-full e = record { means = rw (told-full f e); remembers = λ old. old }
 
-  -- by the plan
+  -- a way from `from` to `to` within the bound
+  module _ (from to : ℕ) (bound : Float) (first : from < nodes) (last : to < nodes) where
+    pub by-found : (cost : Float) (n : ℕ) → M.Found cost n ≡ told (seek from to bound)
+        → (next : Best) → next .route .middle ≡ record { start = from; goal = to; bound = bound; count = n } → ((seek : Seek) (way : List Road) → seek from to bound ≡ found cost way → length way ≡ n → best-of seek next ≡ over b q cost way)
+        → (r : State) → ((seek : Seek) (nodes : ℕ) → Remembers seek nodes (next .route .middle) → Comes best r seek nodes (goes-on (improve (best-of seek best) (best-of seek next))))
+        → Reached (seek from to bound) r
+    unfolding reached roads-in
+    by-found cost n e next middle is r better =
+        let w = told-found (seek from to bound) cost n e in
+        let found-so = w .1 in
+        let holds : Remembers seek nodes (next .route .middle) = subst (Remembers seek nodes) (sym middle) (λ some. (first, last, ap (λ (f : Found). length (roads-in f)) found-so ∙ w .2)) in
+        let g = better seek nodes holds in
+        record {
+          means = g .means ∙ ap (λ s. goes-on (improve (best-of seek best) s)) (is seek (w .0) found-so (w .2)) ∙ sym (ap (reached b q (best-of seek best)) found-so);
+          remembers = g .remembers;
+        }
+
+  -- ---- by the plan
+
   module _ (p : Plan) where
     abbrev pub Settled : State → Type 0
-    Settled r = Comes best r (count-of m) (λ roads old new. settled b q (best-of roads best old) (asked-of roads p) (answer roads m new))
+    Settled r = Comes best r seek nodes (settled b q (best-of seek best) (asked-of p) (middle-of seek q (asked-of p)))
 
-    pub by-nothing : p ≡ P.Nothing → Settled (record { phase = H.On; best = best; taken = 0 })
+    pub by-nothing : p ≡ P.Nothing → Settled (record { phase = H.On; best = best })
     unfolding settled asked-of turn-of
-    by-nothing e = record { few = omega arith; middle = inl (refl, refl); means = λ roads old new h. rw e }
+    by-nothing e = record { means = rw e; remembers = λ old. old }
 
-    pub by-alone : (way next : Best) → p ≡ P.Alone way → next .route .count ≡ 0 → ((roads : ℕ → Road) (area : List ℕ) → best-of roads next area ≡ best-of roads way [])
-        → (r : State) → Better best next r → Settled r
+    pub by-alone : (way next : Best) → p ≡ P.Alone way → next .route .middle .count ≡ 0 → ((seek : Seek) → best-of seek next ≡ best-of no-seek way)
+        → (r : State) → ((seek : Seek) (nodes : ℕ) → Remembers seek nodes (next .route .middle) → Comes best r seek nodes (goes-on (improve (best-of seek best) (best-of seek next)))) → Settled r
     unfolding settled asked-of
-    by-alone way next e zero same r g = record {
-      few = (let t = g .few in omega arith);
-      middle = g .middle;
-      means = λ roads old new h. g .means roads old new (omega arith) ∙ ap (λ s. goes-on (improve (best-of roads best old) s)) (same roads (renewed (next .route .count) new old)) ∙ rw e;
-    }
+    by-alone way next e zero same r better =
+        let g = better seek nodes (λ some. absurd (omega arith)) in
+        record { means = g .means ∙ ap (λ s. goes-on (improve (best-of seek best) s)) (same seek) ∙ rw e; remembers = g .remembers }
 
-    pub by-across : (bound : Float) → p ≡ P.Across bound → (r : State) → Reached r → Settled r
-    unfolding settled asked-of
-    by-across bound e r g = record { few = g .few; middle = g .middle; means = λ roads old new h. g .means roads old new h ∙ rw e }
+    pub by-across : (bound : Float) → p ≡ P.Across bound → (r : State) → Reached (seek (q .start .road .target) (q .end .road .source) bound) r → Settled r
+    unfolding settled asked-of middle-of
+    by-across bound e r g = record { means = g .means ∙ rw e; remembers = g .remembers }
+
+    -- what the plan asks for
+    pub across-told : (m : Search) (bound : Float) → p ≡ P.Across bound → m ≡ told (middle-of seek q (asked-of p)) → m ≡ told (seek (q .start .road .target) (q .end .road .source) bound)
+    unfolding asked-of middle-of
+    across-told m bound e h = rw e at h

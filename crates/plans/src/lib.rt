@@ -22,9 +22,8 @@ pub enum Phase {
     Full,
 }
 
-// After a pair: how it goes on, the best so far, and how many roads of the search's area are its middle now.
+// After a pair: how it goes on, and the best so far.
 pub struct State {
     pub phase: Phase,
     pub best: Best,
-    pub taken: usize,
 }

@@ -1,15 +1,16 @@
 // The turn of one pair, but for its search: all by value.
 ghost use mathlib.Core.Path.{_≡_};
 ghost use mathlib.Core.Bool.{cond};
-ghost use mathlib.Core.List.{List, map};
-ghost use Prim.Native.Nat.{ℕ};
-ghost use lib.ListN.{take};
+ghost use mathlib.Core.List.{List};
+ghost use Prim.Native.Nat.{ℕ, _<_};
+ghost use lib.ListN.{length};
 ghost use Rattle.model.specs.declared.Road.{Road};
 ghost use Rattle.model.specs.Numbers.{f0};
+ghost use Rattle.model.specs.Search.{found};
 ghost use Rattle.model.specs.Legs.{Pair, Seek, asked, over, improve, middle-of, goes-on, reached, settled};
 ghost use Rattle.rules.specs.Code.{pair-as, best-of};
-ghost use Rattle.search.specs.Answers.{answer};
-ghost use Rattle.plans.specs.Turns.{asked-of, by-ask, count-of, renewed, Comes};
+ghost use Rattle.search.specs.Answers.{told};
+ghost use Rattle.plans.specs.Turns.{asked-of, by-ask, Remembers, Comes};
 use crate::Ask;
 use crate::Phase;
 use crate::Plan;
@@ -19,6 +20,7 @@ use model::Limits;
 use model::Road;
 use road_network::road_class;
 use rules::Best;
+use rules::Middle;
 use rules::Part;
 use rules::Route;
 use rules::lengths;
@@ -27,7 +29,7 @@ use search::Search;
 
 // What a pair asks for.
 pub fn plan(b: Limits, start: Candidate, first: Road, end: Candidate, last: Road) -> Plan
-    ensures { λ r. ⌜ ((roads : ℕ → Road) → asked-of roads r ≡ asked b (pair-as start first end last)) ⌝ }
+    ensures { λ r. ⌜ asked-of r ≡ asked b (pair-as start first end last) ⌝ }
 {
     if !road_class::permits(b.constraints, first) {
         return Plan::Nothing;
@@ -48,7 +50,7 @@ pub fn plan(b: Limits, start: Candidate, first: Road, end: Candidate, last: Road
 
 // The search that a plan asks for.
 pub fn ask(p: Plan) -> Ask
-    ensures { λ r. ⌜ ((roads : ℕ → Road) (seek : Seek) (q : Pair) → by-ask (seek (q .start .road .target) (q .end .road .source)) r ≡ middle-of seek q (asked-of roads p)) ⌝ }
+    ensures { λ r. ⌜ ((seek : Seek) (q : Pair) → by-ask (seek (q .start .road .target) (q .end .road .source)) r ≡ middle-of seek q (asked-of p)) ⌝ }
 {
     match p {
         Plan::Nothing => Ask::No,
@@ -64,17 +66,18 @@ fn if_kept(kept: bool, offset: f64) -> f64
     if kept { offset } else { 0.0 }
 }
 
-// The route over a way of n roads with this cost, if its length fits.
+// The route over a way of n roads with this cost, as a search within the bound finds it, if its length fits.
 fn route_over(
     b: Limits,
     start: Candidate,
     first: Road,
     end: Candidate,
     last: Road,
+    bound: f64,
     cost: f64,
     n: usize,
 ) -> Best
-    ensures { λ r. ⌜ (r .route .count ≡ n) × ((roads : ℕ → Road) (area : List ℕ) → best-of roads r area ≡ over b (pair-as start first end last) cost (map roads (take n area))) ⌝ }
+    ensures { λ r. ⌜ (r .route .middle ≡ record { start = first .target; goal = last .source; bound = bound; count = n }) × ((seek : Seek) (way : List Road) → seek (first .target) (last .source) bound ≡ found cost way → length way ≡ n → best-of seek r ≡ over b (pair-as start first end last) cost way) ⌝ }
 {
     let start_part = lengths::end_offset(start, first);
     let end_part = lengths::start_offset(end, last);
@@ -97,7 +100,12 @@ fn route_over(
                 road: first,
                 metres: start_part,
             },
-            count: n,
+            middle: Middle {
+                start: first.target,
+                goal: last.source,
+                bound,
+                count: n,
+            },
             tail: Part {
                 kept: last_stays,
                 road: last,
@@ -107,21 +115,19 @@ fn route_over(
     }
 }
 
-// The better of the best so far and a route whose middle is in the search's area.
+// The better of the best so far and a route.
 fn take_better(best: Best, next: Best) -> State
-    ensures { λ r. ⌜ Comes best r (next .route .count) (λ roads old new. goes-on (improve (best-of roads best old) (best-of roads next (renewed (next .route .count) new old)))) ⌝ }
+    ensures { λ r. ⌜ ((seek : Seek) (nodes : ℕ) → Remembers seek nodes (next .route .middle) → Comes best r seek nodes (goes-on (improve (best-of seek best) (best-of seek next)))) ⌝ }
 {
     if routes::improves(best, next) {
         return State {
             phase: Phase::On,
             best: next,
-            taken: next.route.count,
         };
     }
     State {
         phase: Phase::On,
         best,
-        taken: 0,
     }
 }
 
@@ -133,24 +139,24 @@ fn reach(
     end: Candidate,
     last: Road,
     best: Best,
+    bound: f64,
     m: Search,
 ) -> State
-    ensures { λ r. ⌜ Comes best r (count-of m) (λ roads old new. reached b (pair-as start first end last) (best-of roads best old) (answer roads m new)) ⌝ }
+    ensures { λ r. ⌜ ((seek : Seek) (nodes : ℕ) → first .target < nodes → last .source < nodes → m ≡ told (seek (first .target) (last .source) bound)
+        → Comes best r seek nodes (reached b (pair-as start first end last) (best-of seek best) (seek (first .target) (last .source) bound))) ⌝ }
 {
     match m {
         Search::Found(cost, n) => {
-            let next = route_over(b, start, first, end, last, cost, n);
+            let next = route_over(b, start, first, end, last, bound, cost, n);
             take_better(best, next)
         }
         Search::Nothing => State {
             phase: Phase::On,
             best,
-            taken: 0,
         },
         Search::Full => State {
             phase: Phase::Full,
             best,
-            taken: 0,
         },
     }
 }
@@ -166,18 +172,18 @@ pub fn settle(
     p: Plan,
     m: Search,
 ) -> State
-    ensures { λ r. ⌜ Comes best r (count-of m) (λ roads old new. settled b (pair-as start first end last) (best-of roads best old) (asked-of roads p) (answer roads m new)) ⌝ }
+    ensures { λ r. ⌜ ((seek : Seek) (nodes : ℕ) → first .target < nodes → last .source < nodes → m ≡ told (middle-of seek (pair-as start first end last) (asked-of p))
+        → Comes best r seek nodes (settled b (pair-as start first end last) (best-of seek best) (asked-of p) (middle-of seek (pair-as start first end last) (asked-of p)))) ⌝ }
 {
     match p {
         Plan::Nothing => State {
             phase: Phase::On,
             best,
-            taken: 0,
         },
         Plan::Alone(way) => {
             let next = routes::without_middle(way);
             take_better(best, next)
         }
-        Plan::Across(_) => reach(b, start, first, end, last, best, m),
+        Plan::Across(bound) => reach(b, start, first, end, last, best, bound, m),
     }
 }

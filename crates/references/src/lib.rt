@@ -18,7 +18,7 @@ ghost use Rattle.model.specs.View.{view};
 ghost use Rattle.model.specs.Search.{bounded-astar};
 ghost use Rattle.model.specs.Decode.{outcome};
 ghost use Rattle.model.specs.Decode as decode;
-ghost use Rattle.search.specs.Areas.{LegRoom, ListRoom};
+ghost use Rattle.search.specs.Areas.{SearchRoom, ListRoom};
 ghost use Rattle.lines.specs.Legs.{Ends};
 ghost use Rattle.references.specs.Reference.{Looks, Placed, Comes};
 
@@ -73,8 +73,6 @@ pub fn decode_legs(
     slots: usize,
     labels: &mut [f64],
     came_from: &mut [usize],
-    route: &mut [usize],
-    best_route: &mut [usize],
     entries: &mut [f64],
     links: &mut [usize],
     covered: &mut [usize],
@@ -83,7 +81,7 @@ pub fn decode_legs(
 ) -> Outcome
     requires { ⌜ WellFormed (now s) c ⌝ }
     requires { ⌜ ListRoom c (now covered) (now coverage) (now ids) ⌝ }
-    requires { ⌜ LegRoom (c .n) slots (now labels) (now «came_from») (now route) (now «best_route») (now entries) (now links) ⌝ }
+    requires { ⌜ SearchRoom (c .n) slots (now labels) (now «came_from») (now entries) (now links) ⌝ }
     ensures { λ r. ⌜ Comes (sheet-of (now (s .entry)) c) c (outcome (view (sheet-of (now (s .entry)) c)) (bounded-astar slots)) (now (ids .exit)) (now (covered .exit)) (now (coverage .exit)) r ⌝ }
 {
     let set = points::settings(s, c);
@@ -99,8 +97,6 @@ pub fn decode_legs(
                 slots,
                 labels,
                 came_from,
-                route,
-                best_route,
                 entries,
                 links,
                 covered,

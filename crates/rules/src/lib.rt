@@ -14,13 +14,21 @@ pub struct Part {
     pub metres: f64,
 }
 
-// A route: its length and offsets, the first road, how many roads of a lent area follow, and the last road.
+// The roads between the terminal ones: what a search from `start` to `goal` within `bound` metres finds, `count` of them.
+pub struct Middle {
+    pub start: usize,
+    pub goal: usize,
+    pub bound: f64,
+    pub count: usize,
+}
+
+// A route: its length and offsets, the first road, the roads between, and the last road.
 pub struct Route {
     pub total: f64,
     pub start_offset: f64,
     pub end_offset: f64,
     pub head: Part,
-    pub count: usize,
+    pub middle: Middle,
     pub tail: Part,
 }
 

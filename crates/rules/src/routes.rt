@@ -2,12 +2,10 @@
 ghost use mathlib.Core.Path.{_≡_};
 ghost use mathlib.Core.Bool.{cond};
 ghost use mathlib.Core.Option.{none};
-ghost use mathlib.Core.List.{List, []};
-ghost use Prim.Native.Nat.{ℕ};
-ghost use Rattle.model.specs.declared.Road.{Road};
-ghost use Rattle.model.specs.Legs.{on-one-road, best-score, improve, first-or-better};
-ghost use Rattle.rules.specs.Code.{pair-as, best-of, Stands};
+ghost use Rattle.model.specs.Legs.{Seek, on-one-road, best-score, improve, first-or-better};
+ghost use Rattle.rules.specs.Code.{pair-as, no-middle, no-seek, best-of, Stands};
 use crate::Best;
+use crate::Middle;
 use crate::Part;
 use crate::Route;
 use crate::lengths;
@@ -15,9 +13,21 @@ use candidates::candidate::Candidate;
 use model::Limits;
 use model::Road;
 
+// No roads between.
+fn no_middle() -> Middle
+    ensures { λ r. ⌜ r ≡ no-middle ⌝ }
+{
+    Middle {
+        start: 0,
+        goal: 0,
+        bound: 0.0,
+        count: 0,
+    }
+}
+
 // No route yet.
 pub fn no_best() -> Best
-    ensures { λ r. ⌜ Stands r none ⌝ }
+    ensures { λ r. ⌜ Stands r none × (r .route .middle .count ≡ 0) ⌝ }
 {
     let road = Road {
         number: 0,
@@ -34,6 +44,7 @@ pub fn no_best() -> Best
         road,
         metres: 0.0,
     };
+    let middle = no_middle();
     Best {
         found: false,
         score: 0.0,
@@ -42,7 +53,7 @@ pub fn no_best() -> Best
             start_offset: 0.0,
             end_offset: 0.0,
             head: part,
-            count: 0,
+            middle,
             tail: part,
         },
     }
@@ -57,6 +68,7 @@ pub fn on_one_road(b: Limits, start: Candidate, first: Road, end: Candidate, las
     let score = lengths::score_of(b, start, first, end, last, total);
     let start_offset = lengths::start_offset(start, first);
     let end_offset = first.metres * (1.0 - end.fraction);
+    let middle = no_middle();
     Best {
         found,
         score,
@@ -69,7 +81,7 @@ pub fn on_one_road(b: Limits, start: Candidate, first: Road, end: Candidate, las
                 road: first,
                 metres: total,
             },
-            count: 0,
+            middle,
             tail: Part {
                 kept: false,
                 road: first,
@@ -81,7 +93,7 @@ pub fn on_one_road(b: Limits, start: Candidate, first: Road, end: Candidate, las
 
 // The score to beat: f64::MAX where there is no route.
 pub fn best_score(best: Best) -> f64
-    ensures { λ r. ⌜ ((roads : ℕ → Road) (area : List ℕ) → r ≡ best-score (best-of roads best area)) ⌝ }
+    ensures { λ r. ⌜ ((seek : Seek) → r ≡ best-score (best-of seek best)) ⌝ }
 {
     if best.found {
         best.score
@@ -92,7 +104,7 @@ pub fn best_score(best: Best) -> f64
 
 // Whether the next route takes the place of the best one: only on a strictly lower score.
 pub fn improves(best: Best, next: Best) -> bool
-    ensures { λ r. ⌜ ((roads : ℕ → Road) (old new : List ℕ) → cond r (best-of roads next new) (best-of roads best old) ≡ improve (best-of roads best old) (best-of roads next new)) ⌝ }
+    ensures { λ r. ⌜ ((seek : Seek) → cond r (best-of seek next) (best-of seek best) ≡ improve (best-of seek best) (best-of seek next)) ⌝ }
 {
     if next.found {
         return next.score < best_score(best);
@@ -102,14 +114,14 @@ pub fn improves(best: Best, next: Best) -> bool
 
 // The better of the two.
 pub fn improve(best: Best, next: Best) -> Best
-    ensures { λ r. ⌜ ((roads : ℕ → Road) (area : List ℕ) → best-of roads r area ≡ improve (best-of roads best area) (best-of roads next area)) ⌝ }
+    ensures { λ r. ⌜ ((seek : Seek) → best-of seek r ≡ improve (best-of seek best) (best-of seek next)) ⌝ }
 {
     if improves(best, next) { next } else { best }
 }
 
 // The same, but the first one counts whatever its score is.
 pub fn first_or_better(best: Best, next: Best) -> Best
-    ensures { λ r. ⌜ ((roads : ℕ → Road) (area : List ℕ) → best-of roads r area ≡ first-or-better (best-of roads best area) (best-of roads next area)) ⌝ }
+    ensures { λ r. ⌜ ((seek : Seek) → best-of seek r ≡ first-or-better (best-of seek best) (best-of seek next)) ⌝ }
 {
     if best.found {
         improve(best, next)
@@ -120,9 +132,22 @@ pub fn first_or_better(best: Best, next: Best) -> Best
 
 // The route on its terminal roads alone.
 pub fn without_middle(b: Best) -> Best
-    ensures { λ r. ⌜ (r .route .count ≡ 0) × ((roads : ℕ → Road) (area : List ℕ) → best-of roads r area ≡ best-of roads b []) ⌝ }
+    ensures { λ r. ⌜ (r .route .middle .count ≡ 0) × ((seek : Seek) → best-of seek r ≡ best-of no-seek b) ⌝ }
 {
-    let mut r = b;
-    r.route.count = 0;
-    r
+    let route = b.route;
+    let head = route.head;
+    let tail = route.tail;
+    let middle = no_middle();
+    Best {
+        found: b.found,
+        score: b.score,
+        route: Route {
+            total: route.total,
+            start_offset: route.start_offset,
+            end_offset: route.end_offset,
+            head,
+            middle,
+            tail,
+        },
+    }
 }

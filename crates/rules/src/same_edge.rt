@@ -1,11 +1,8 @@
 // The best route on one road.
 ghost use mathlib.Core.Path.{_≡_};
-ghost use mathlib.Core.List.{List};
-ghost use Prim.Native.Nat.{ℕ};
-ghost use Rattle.model.specs.declared.Road.{Road};
 ghost use Rattle.model.specs.Judge.{WellFormed};
 ghost use Rattle.model.specs.Sheet.{sheet-of};
-ghost use Rattle.model.specs.Legs.{pairs, close, take-close, try-same-edge-solution};
+ghost use Rattle.model.specs.Legs.{Seek, pairs, close, take-close, try-same-edge-solution};
 ghost use Rattle.candidates.specs.Found.{held, Ready};
 ghost use Rattle.rules.specs.Code.{pair-as, best-of, Stands};
 use crate::Best;
@@ -43,7 +40,7 @@ fn take_close(
     end: Candidate,
     last: Road,
 ) -> Best
-    ensures { λ r. ⌜ ((roads : ℕ → Road) (area : List ℕ) → best-of roads r area ≡ take-close b (best-of roads best area) (pair-as start first end last)) ⌝ }
+    ensures { λ r. ⌜ ((seek : Seek) → best-of seek r ≡ take-close b (best-of seek best) (pair-as start first end last)) ⌝ }
 {
     if close(b, start, first, end, last) {
         let next = routes::on_one_road(b, start, first, end, last);

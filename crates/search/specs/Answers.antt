@@ -3,9 +3,11 @@ use Prim.Native.Nat.{ℕ, _≤_, _<_}
 use mathlib.Core.Path.{_≡_}
 use mathlib.Core.Option.{Option, none, some}
 use mathlib.Core.List.{List, [], map}
-use lib.ListN.{getD, take}
+use lib.ListN.{length, getD}
 use lib.Ieee.{Float}
+use Rattle.model.specs.declared.Counts.{Counts}
 use Rattle.model.specs.declared.Road.{Road}
+use Rattle.model.specs.Sheet.{Sheet, road-at}
 use Rattle.model.specs.Search.{Query, Found, found, none-found, full, Label, Entry, State, label-at, real-of, trace, Step, stop, more}
 use Rattle.search.specs.declared.offers.Offer.{Offer}
 use Rattle.search.specs.declared.offers.Offer.the-variants as O
@@ -16,7 +18,7 @@ use Rattle.search.specs.declared.turns.Progress.the-variants as P
 use Rattle.search.specs.declared.turns.Turn.{Turn}
 use Rattle.search.specs.declared.Search.{Search}
 use Rattle.search.specs.declared.Search.the-variants as S
-use Rattle.search.specs.Areas.{marked, Columns, Reached, Proper, Kept, Back}
+use Rattle.search.specs.Areas.{marked, Columns, Reached, Proper, Kept, Back, back-way, LeadsBack}
 
 -- ---- one road
 
@@ -85,18 +87,32 @@ Arrives n e roads goal P.Looking came = Unit {0}
 Arrives n e roads goal P.Found came = Back n e roads came goal
 Arrives n e roads goal P.Full came = Unit {0}
 
--- the roads stand in the front of the route, in travel order
-unfoldable pub answer : (ℕ → Road) → Search → List ℕ → Found
-answer roads (S.Found cost n) route = found cost (map roads (take n route))
-answer roads S.Nothing route = none-found
-answer roads S.Full route = full
+-- what a search tells: of the roads found, how many they are
+unfoldable pub told : Found → Search
+told (found cost way) = S.Found cost (length way)
+told none-found = S.Nothing
+told full = S.Full
 
--- the first k of the route are numbers of the e roads
+-- the roads found
+unfoldable pub roads-in : Found → List Road
+roads-in (found cost way) = way
+roads-in none-found = []
+roads-in full = []
+
+-- The marks lead back from the goal over the k roads of the way, fewer than there are nodes.
+pub record WayBack (t : Sheet) (c : Counts) (goal : ℕ) (came : List ℕ) (k : ℕ) (way : List Road) : Type 0 where
+  pub inside : goal < c .n
+  pub size : c .n ≤ length came
+  pub few : k < c .n
+  pub leads : LeadsBack (road-at t) (c .e) came k goal
+  pub roads : map (road-at t) (back-way (road-at t) came k goal) ≡ way
+
+-- where a way was found
+unfoldable pub Traced : Sheet → Counts → ℕ → List ℕ → Search → List Road → Type 0
+Traced t c goal came (S.Found cost k) way = WayBack t c goal came k way
+Traced t c goal came S.Nothing way = Unit {0}
+Traced t c goal came S.Full way = Unit {0}
+
+-- the first k numbers of a list are those of the e roads
 abbrev pub Numbers : ℕ → ℕ → List ℕ → Type 0
-Numbers e k route = (j : ℕ) → j < k → getD route j 0 < e
-
--- the roads found are fewer than the n nodes, and the route holds their numbers
-unfoldable pub Holds : ℕ → ℕ → Search → List ℕ → Type 0
-Holds n e (S.Found cost k) route = (k < n) × Numbers e k route
-Holds n e S.Nothing route = Unit {0}
-Holds n e S.Full route = Unit {0}
+Numbers e k xs = (j : ℕ) → j < k → getD xs j 0 < e

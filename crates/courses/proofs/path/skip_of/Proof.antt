@@ -1,48 +1,79 @@
-use mathlib.Core.Path.{_≡_, sym, _∙_}
-use native.Mathlib.Omega.{arith}
-use borrow.Author.Needs.{needs}
-use denote.Ref.{now}
-use Rattle.courses.proofs.Writing.{skip-empty, skip-none, skip-same, skip-other}
 use Rattle.courses.proofs.Lookup.{numbers-size}
-use Rattle.courses.specs.Left.{last-of}
+use Rattle.courses.proofs.Writing.{skip-empty, skip-none, skip-same, skip-other}
+use Rattle.courses.specs.Left.{middle-numbers, numbers-of, last-of}
+use Rattle.search.proofs.Walks.{back-size}
+use Rattle.model.specs.Sheet.{sheet-of, road-at}
+use native.Mathlib.Omega.{arith}
+use lib.ListN.{length}
+use Prim.Native.Nat.{ℕ, _<_}
+use mathlib.Core.Option.{some}
+use mathlib.Core.Logic.{inl, inr}
+use mathlib.Core.Path.{_≡_, refl, sym, ap, _∙_}
+use borrow.Author.Needs.{needs}
 use Rattle.courses.proofs.path.skip_of.Statement.{statement}
 use Rattle.courses.proofs.path.skip_of.Tie as tie
+use Rattle.courses.proofs.path.skip_of.Reads as reads
+use Rattle.courses.proofs.path.skip_of.Lts as lts
+use Rattle.courses.proofs.path.count_roads.Reads as count-roads-reads
+use Rattle.courses.proofs.path.first_number.Reads as first-number-reads
 
-returns : tie.Need-returns
-returns c =
-    let s = c .before .before in
-    (omega arith, skip-empty _ _ (numbers-size (s .args .r) (now (s .args .area)) (s .pre .0) ∙ sym (s .pre .1) ∙ c .if1 .taken))
-
-number-at-requires : tie.Need-number-at-requires
-number-at-requires c κs = search needs
-
+-- src/path.rt:68:20
 enum-known-last : tie.Need-enum-known-last
 enum-known-last c = search needs
 
+-- src/path.rt:69:9
 enum-told : tie.Need-enum-told
 enum-told c = search needs
 
-returns-2 : tie.Need-returns-2
+-- src/path.rt:69:9
+returns : tie.Need-returns
 unfolding last-of
-returns-2 c = (omega arith, rw (c .enum-told .given .1) (skip-none _))
+returns c = inl (refl, rw (c .enum-told .given .1) (skip-none _))
 
+-- src/path.rt:71:9
+count-roads-requires : tie.Need-count-roads-requires
+count-roads-requires c κs = c .before .before .before .before .before .pre .2
+
+-- src/path.rt:73:9
+returns-2 : tie.Need-returns-2
+returns-2 c = let a = c .before .before .before .before .before .before .before .args in let t = sheet-of (a .s .now) (a .c) in let ks = middle-numbers t (a .came-from .now) (a .r .middle) in
+    let room = back-size (road-at t) (a .came-from .now) (a .r .middle .count) (a .r .middle .goal) in
+    inl (refl, skip-empty _ _ (numbers-size (a .r) ks (omega (arith, room)) ∙ sym (c .before .count-roads .ensures .0) ∙ c .if1 .taken))
+
+-- src/path.rt:75:17
+first-number-requires : tie.Need-first-number-requires
+first-number-requires c κs = let none = c .if1 .left in (c .before .before .before .before .before .before .before .pre .0, c .before .before .before .before .before .before .before .pre .1, omega (arith, c .before .count-roads .ensures .0, none))
+
+-- src/path.rt:64:1
 returns-3 : tie.Need-returns-3
 unfolding last-of
-returns-3 c =
-    let s = c .before .before .before .before .before .before .before in
-    let size = numbers-size (s .args .r) (now (s .args .area)) (s .pre .0) in
-    let some-road : s .args .m ≡ 0 → ⊥ = c .before .before .before .before .before .if1 .left in
-    (omega arith, rw (c .before .before .last .given .1) (skip-same _ _ (omega arith) (c .if2 .taken ∙ c .before .before .before .before .number-at .ensures)))
+returns-3 c = let a = c .before .before .before .before .before .before .before .before .before .args in let t = sheet-of (a .s .now) (a .c) in let ks = middle-numbers t (a .came-from .now) (a .r .middle) in
+    let room = back-size (road-at t) (a .came-from .now) (a .r .middle .count) (a .r .middle .goal) in
+    let size = numbers-size (a .r) ks (omega (arith, room)) in
+    let left = c .before .before .if1 .left in
+    let one : 0 < length (numbers-of (a .r) ks) = omega (arith, size, c .before .before .before .count-roads .ensures .0, left) in
+    let is = c .if2 .taken ∙ c .before .first-number .ensures in
+    inr (refl, one, ap last-of (c .before .before .before .before .before .last .given .1) ∙ ap (λ (x : ℕ). some x) is, rw (c .before .before .before .before .before .last .given .1) (skip-same _ _ one is))
 
+-- src/path.rt:64:1
 returns-4 : tie.Need-returns-4
 unfolding last-of
-returns-4 c =
-    let s = c .before .before .before .before .before .before .before in
-    let size = numbers-size (s .args .r) (now (s .args .area)) (s .pre .0) in
-    let some-road : s .args .m ≡ 0 → ⊥ = c .before .before .before .before .before .if1 .left in
-    (omega arith, rw (c .before .before .last .given .1) (skip-other _ _ (omega arith) (λ e. c .if2 .left (e ∙ sym (c .before .before .before .before .number-at .ensures)))))
+returns-4 c = let a = c .before .before .before .before .before .before .before .before .before .args in let t = sheet-of (a .s .now) (a .c) in let ks = middle-numbers t (a .came-from .now) (a .r .middle) in
+    let room = back-size (road-at t) (a .came-from .now) (a .r .middle .count) (a .r .middle .goal) in
+    let size = numbers-size (a .r) ks (omega (arith, room)) in
+    let left = c .before .before .if1 .left in
+    let one : 0 < length (numbers-of (a .r) ks) = omega (arith, size, c .before .before .before .count-roads .ensures .0, left) in
+    inl (refl, rw (c .before .before .before .before .before .last .given .1) (skip-other _ _ one (λ e. c .if2 .left (e ∙ sym (c .before .first-number .ensures)))))
 
 pub skip-of-spec : {M : Type 1} → statement M
 skip-of-spec =
     tie.close
-    (tie.spec returns number-at-requires enum-known-last enum-told returns-2 returns-3 returns-4)
+    (tie.spec
+    enum-known-last
+    enum-told
+    returns
+    count-roads-requires
+    returns-2
+    first-number-requires
+    returns-3
+    returns-4)

@@ -1,88 +1,91 @@
-use Prim.Native.Nat.{_≤_, _-_}
-use mathlib.Core.Path.{_≡_, refl, sym}
+use Rattle.courses.proofs.Writing.{leg-written}
+use Rattle.courses.specs.Left.{middle-numbers}
+use Rattle.search.proofs.Walks.{back-size}
+use Rattle.model.specs.Sheet.{sheet-of, road-at}
 use native.Mathlib.Omega.{arith}
-use lib.ListN.{length, take, drop, length-set}
-use denote.Ref.{now}
-use Rattle.courses.proofs.Writing.{write-more, write-end}
-use Rattle.courses.proofs.Lookup.{numbers-size}
-use Rattle.courses.specs.Left.{numbers-of}
+use mathlib.Core.Path.{refl}
+use borrow.Author.Needs.{needs}
 use Rattle.courses.proofs.path.write_leg.Statement.{statement}
 use Rattle.courses.proofs.path.write_leg.Tie as tie
+use Rattle.courses.proofs.path.write_leg.Reads as reads
+use Rattle.courses.proofs.path.write_leg.Lts as lts
+use Rattle.courses.proofs.path.write_middle.Reads as write-middle-reads
+use Rattle.courses.proofs.path.write_terminal.Reads as write-terminal-reads
 
-abbrev Inv-loop : tie.InvT-loop
-Inv-loop r area out₀ m skip n i₀ out i =
-    (i ≤ n) × (length out ≡ length out₀) × (take i out ≡ take i (drop skip (numbers-of r area)))
+-- src/path.rt:106:9
+write-terminal-requires : tie.Need-write-terminal-requires
+write-terminal-requires c κs = omega (arith, c .before .before .before .before .pre .2)
 
-abbrev μ-loop : tie.MeasureT-loop
-μ-loop r area out₀ m skip n i₀ out i =
-    n - i
+-- src/path.rt:108:38
+mul-write-middle : tie.Need-mul-write-middle
+mul-write-middle c = search needs
 
-count-roads-requires : tie.Need-count-roads-requires Inv-loop μ-loop
-count-roads-requires c κs = omega arith
+-- src/path.rt:108:38
+sub-write-middle : tie.Need-sub-write-middle
+sub-write-middle c = omega (arith, c .before .before .before .before .before .before .before .before .pre .2, c .before .before .before .write-terminal .ensures .1, c .before .before .before .write-terminal .kept .1 .0)
 
-skip-of-requires : tie.Need-skip-of-requires Inv-loop μ-loop
-skip-of-requires c κs = (c .before .before .before .pre .0, c .count-roads .ensures .0)
+-- src/path.rt:108:38
+part-write-middle-start : tie.Need-part-write-middle-start
+part-write-middle-start c = search needs
 
-sub-n : tie.Need-sub-n Inv-loop μ-loop
-sub-n c = omega arith
+-- src/path.rt:108:38
+part-write-middle-end : tie.Need-part-write-middle-end
+part-write-middle-end c = search needs
 
-loop-holds : tie.Need-loop-holds Inv-loop μ-loop
-loop-holds c = (omega arith, refl, refl)
+-- src/path.rt:108:5
+write-middle-requires : tie.Need-write-middle-requires
+write-middle-requires c κs = search needs
 
-add-j : tie.Need-add-j Inv-loop μ-loop
-add-j c = omega arith
+-- src/path.rt:109:16
+add-last : tie.Need-add-last
+add-last c = search needs
 
-number-at-requires : tie.Need-number-at-requires Inv-loop μ-loop
-number-at-requires c κs = (c .before .before .before .before .before .before .pre .0, omega arith)
+-- src/path.rt:110:28
+mul-write-terminal : tie.Need-mul-write-terminal
+mul-write-terminal c = search needs
 
-mul-out : tie.Need-mul-out Inv-loop μ-loop
-mul-out c = omega arith
+-- src/path.rt:110:28
+sub-write-terminal : tie.Need-sub-write-terminal
+sub-write-terminal c = search needs
 
-slice-write-out : tie.Need-slice-write-out Inv-loop μ-loop
-slice-write-out c = omega arith
+-- src/path.rt:110:28
+part-write-terminal-start : tie.Need-part-write-terminal-start
+part-write-terminal-start c = search needs
 
-add-i : tie.Need-add-i Inv-loop μ-loop
-add-i c = omega arith
+-- src/path.rt:110:28
+part-write-terminal-end : tie.Need-part-write-terminal-end
+part-write-terminal-end c = search needs
 
-loop-less : tie.Need-loop-less Inv-loop μ-loop
-loop-less c = omega arith
+-- src/path.rt:110:5
+write-terminal-requires-2 : tie.Need-write-terminal-requires-2
+write-terminal-requires-2 c κs = search needs
 
-loop-again : tie.Need-loop-again Inv-loop μ-loop
-loop-again c =
-    let s = c .before .before .before .before .before .before .before in
-    let a = c .before .before .loop in
-    let xs = numbers-of (s .args .r) (now (s .args .area)) in
-    let size = numbers-size (s .args .r) (now (s .args .area)) (s .pre .0) in
-    (omega arith, simp length-set (a .inv .1), write-more xs (c .before .before .before .skip-of .result) (a .i) (a .out) (c .number-at .result) (a .inv .2) (omega arith) (omega arith) (c .number-at .ensures))
+-- src/path.rt:102:1
+same-length : tie.Need-same-length
+same-length c = search needs
 
-same-length : tie.Need-same-length Inv-loop μ-loop
-same-length c = c .before .loop .inv .1
-
-returns : tie.Need-returns Inv-loop μ-loop
-returns c =
-    let s = c .before .before .before .before .before .before in
-    let a = c .before .loop in
-    let xs = numbers-of (s .args .r) (now (s .args .area)) in
-    let size = numbers-size (s .args .r) (now (s .args .area)) (s .pre .0) in
-    let all : a .i ≡ c .before .before .before .count-roads .result - c .before .before .skip-of .result = omega arith in
-    (omega arith, rw (sym all) (write-end xs (c .before .before .skip-of .result) (a .i) (a .out) _ (a .inv .2) (omega arith) (c .before .before .skip-of .ensures .1)))
+-- src/path.rt:102:1
+returns : tie.Need-returns
+returns c = let a = c .before .before .before .before .before .before .before .before .before .before .before .before .before .before .before .before .before .args in let t = sheet-of (a .s .now) (a .c) in
+    let size = back-size (road-at t) (a .came-from .now) (a .r .middle .count) (a .r .middle .goal) in
+    let w = c .before .before .before .before .before .before .before .before .before .before .before .before .write-terminal in let v = c .before .before .write-terminal2 in
+    leg-written (a .r) (middle-numbers t (a .came-from .now) (a .r .middle)) (a .out .now) _ _ _ _ (w .result) (v .result) size (c .before .before .before .before .before .before .before .before .before .before .before .before .before .before .before .before .before .pre .2) (w .ensures .0) (w .ensures .1) (v .ensures .0) (v .ensures .1) (w .ensures .2) (c .before .before .before .before .before .before .before .write-middle .ensures) refl (v .ensures .2)
 
 pub write-leg-spec : {M : Type 1} → statement M
 write-leg-spec =
     tie.close
     (tie.spec
-    Inv-loop
-    μ-loop
-    count-roads-requires
-    skip-of-requires
-    sub-n
-    loop-holds
-    add-j
-    number-at-requires
-    mul-out
-    slice-write-out
-    add-i
-    loop-less
-    loop-again
+    write-terminal-requires
+    mul-write-middle
+    sub-write-middle
+    part-write-middle-start
+    part-write-middle-end
+    write-middle-requires
+    add-last
+    mul-write-terminal
+    sub-write-terminal
+    part-write-terminal-start
+    part-write-terminal-end
+    write-terminal-requires-2
     same-length
     returns)

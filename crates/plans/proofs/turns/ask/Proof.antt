@@ -15,15 +15,15 @@ enum-known-p c = search needs
 
 returns : tie.Need-returns
 unfolding by-ask middle-of asked-of
-returns c = λ roads seek q. rw (c .enum-told .given .1)
+returns c = λ seek q. rw (c .enum-told .given .1)
 
 returns-2 : tie.Need-returns-2
 unfolding by-ask middle-of asked-of
-returns-2 c = λ roads seek q. rw (c .enum-told2 .given .1)
+returns-2 c = λ seek q. rw (c .enum-told2 .given .1)
 
 returns-3 : tie.Need-returns-3
 unfolding by-ask middle-of asked-of
-returns-3 c = λ roads seek q. rw (c .before .p .given .1)
+returns-3 c = λ seek q. rw (c .before .p .given .1)
 
 pub ask-spec : {M : Type 1} → statement M
 ask-spec =

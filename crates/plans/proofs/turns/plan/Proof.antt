@@ -1,5 +1,5 @@
 use mathlib.Core.Path.{sym, ap, _∙_}
-use mathlib.Core.List.{[]}
+use Rattle.rules.specs.Code.{no-seek}
 use borrow.Author.Tests.{not-true, not-false}
 use borrow.Author.Needs.{needs}
 use Rattle.model.specs.Legs.{alone}
@@ -13,21 +13,21 @@ permits-requires c κs = search needs
 
 returns : tie.Need-returns
 unfolding asked-of
-returns c = λ roads. asked-start _ _ (sym (c .before .permits .ensures) ∙ not-true _ (c .if1 .taken))
+returns c = asked-start _ _ (sym (c .before .permits .ensures) ∙ not-true _ (c .if1 .taken))
 
 permits-requires-2 : tie.Need-permits-requires-2
 permits-requires-2 c κs = search needs
 
 returns-2 : tie.Need-returns-2
 unfolding asked-of
-returns-2 c = λ roads. asked-end _ _ (sym (c .before .before .before .permits .ensures) ∙ not-false _ (c .before .before .if1 .left)) (sym (c .before .permits2 .ensures) ∙ not-true _ (c .if2 .taken))
+returns-2 c = asked-end _ _ (sym (c .before .before .before .permits .ensures) ∙ not-false _ (c .before .before .if1 .left)) (sym (c .before .permits2 .ensures) ∙ not-true _ (c .if2 .taken))
 
 on-one-road-requires : tie.Need-on-one-road-requires
 on-one-road-requires c κs = search needs
 
 returns-3 : tie.Need-returns-3
 unfolding asked-of
-returns-3 c = λ roads. ap alone (c .on-one-road .ensures roads [])
+returns-3 c = ap alone (c .on-one-road .ensures no-seek)
     ∙ asked-alone _ _ (sym (c .before .before .before .before .before .before .before .permits .ensures) ∙ not-false _ (c .before .before .before .before .before .before .if1 .left)) (sym (c .before .before .before .before .before .permits2 .ensures) ∙ not-false _ (c .before .before .before .before .if2 .left)) (c .before .if3 .taken)
 
 middle-max-requires : tie.Need-middle-max-requires
@@ -35,11 +35,11 @@ middle-max-requires c κs = search needs
 
 returns-4 : tie.Need-returns-4
 unfolding asked-of
-returns-4 c = λ roads. asked-short _ _ (sym (c .before .before .before .before .before .before .before .before .permits .ensures) ∙ not-false _ (c .before .before .before .before .before .before .before .if1 .left)) (sym (c .before .before .before .before .before .before .permits2 .ensures) ∙ not-false _ (c .before .before .before .before .before .if2 .left)) (c .before .before .if3 .left) _ (c .before .middle-max .ensures) (c .if4 .taken)
+returns-4 c = asked-short _ _ (sym (c .before .before .before .before .before .before .before .before .permits .ensures) ∙ not-false _ (c .before .before .before .before .before .before .before .if1 .left)) (sym (c .before .before .before .before .before .before .permits2 .ensures) ∙ not-false _ (c .before .before .before .before .before .if2 .left)) (c .before .before .if3 .left) _ (c .before .middle-max .ensures) (c .if4 .taken)
 
 returns-5 : tie.Need-returns-5
 unfolding asked-of
-returns-5 c = λ roads. asked-across _ _ (sym (c .before .before .before .before .before .before .before .before .permits .ensures) ∙ not-false _ (c .before .before .before .before .before .before .before .if1 .left)) (sym (c .before .before .before .before .before .before .permits2 .ensures) ∙ not-false _ (c .before .before .before .before .before .if2 .left)) (c .before .before .if3 .left) _ (c .before .middle-max .ensures) (c .if4 .left)
+returns-5 c = asked-across _ _ (sym (c .before .before .before .before .before .before .before .before .permits .ensures) ∙ not-false _ (c .before .before .before .before .before .before .before .if1 .left)) (sym (c .before .before .before .before .before .before .permits2 .ensures) ∙ not-false _ (c .before .before .before .before .before .if2 .left)) (c .before .before .if3 .left) _ (c .before .middle-max .ensures) (c .if4 .left)
 
 pub plan-spec : {M : Type 1} → statement M
 plan-spec =

@@ -1,32 +1,45 @@
-use Rattle.rules.specs.Code.{pair-as}
-use borrow.Author.Needs.{needs}
 use Rattle.plans.proofs.Settling.{by-none, by-full, by-found}
+use Rattle.rules.specs.Code.{pair-as}
+use mathlib.Core.Path.{sym, _∙_}
+use borrow.Author.Needs.{needs}
 use Rattle.plans.proofs.turns.reach.Statement.{statement}
 use Rattle.plans.proofs.turns.reach.Tie as tie
+use Rattle.plans.proofs.turns.reach.Reads as reads
+use Rattle.plans.proofs.turns.reach.Lts as lts
+use Rattle.plans.proofs.turns.route_over.Reads as route-over-reads
+use Rattle.plans.proofs.turns.take_better.Reads as take-better-reads
 
+-- src/turns.rt:149:23
 enum-known-m : tie.Need-enum-known-m
 enum-known-m c = search needs
 
+-- src/turns.rt:150:17
 route-over-requires : tie.Need-route-over-requires
 route-over-requires c κs = search needs
 
+-- src/turns.rt:151:13
 take-better-requires : tie.Need-take-better-requires
 take-better-requires c κs = search needs
 
+-- src/turns.rt:154:20
 enum-told : tie.Need-enum-told
 enum-told c = search needs
 
+-- src/turns.rt:158:20
 enum-told-2 : tie.Need-enum-told-2
 enum-told-2 c = search needs
 
+-- src/turns.rt:135:1
 returns : tie.Need-returns
-returns c = let s = c .before .before .before .before .before .args in by-found (s .b) (pair-as (s .start) (s .first) (s .end) (s .last)) (s .best) (s .m) _ _ (c .before .before .before .m .given .1) (c .before .route-over .result) (c .before .route-over .ensures .0) (c .before .route-over .ensures .1) (c .take-better .result) (c .take-better .ensures)
+returns c = let s = c .before .before .before .before .before .args in λ seek nodes first last e. by-found (s .b) (pair-as (s .start) (s .first) (s .end) (s .last)) (s .best) seek nodes _ _ (s .bound) first last _ _ (sym (c .before .before .before .m .given .1) ∙ e) (c .before .route-over .result) (c .before .route-over .ensures .0) (c .before .route-over .ensures .1) (c .take-better .result) (c .take-better .ensures)
 
+-- src/turns.rt:135:1
 returns-2 : tie.Need-returns-2
-returns-2 c = let s = c .before .before .args in by-none (s .b) (pair-as (s .start) (s .first) (s .end) (s .last)) (s .best) (s .m) (c .enum-told .given .1)
+returns-2 c = let s = c .before .before .args in λ seek nodes first last e. by-none (s .b) (pair-as (s .start) (s .first) (s .end) (s .last)) (s .best) seek nodes _ (sym (c .enum-told .given .1) ∙ e)
 
+-- src/turns.rt:135:1
 returns-3 : tie.Need-returns-3
-returns-3 c = let s = c .before .before .args in by-full (s .b) (pair-as (s .start) (s .first) (s .end) (s .last)) (s .best) (s .m) (c .enum-told2 .given .1)
+returns-3 c = let s = c .before .before .args in λ seek nodes first last e. by-full (s .b) (pair-as (s .start) (s .first) (s .end) (s .last)) (s .best) seek nodes _ (sym (c .enum-told2 .given .1) ∙ e)
 
 pub reach-spec : {M : Type 1} → statement M
 reach-spec =
