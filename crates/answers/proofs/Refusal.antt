@@ -9,7 +9,7 @@ use lib.ListN.{length}
 use mir.Syntax.{w64}
 use mir.Val.{Fits}
 use Rattle.model.specs.Table.{all-after, all-of}
-use Rattle.model.specs.Call.{Lent, most-entries, roomy}
+use Rattle.model.specs.Call.{Lent, most-entries, has-room}
 
 pub most-fits : {a b : ℕ} → a ≤ 20 → b ≤ 1025 → Fits w64 (a * b)
 most-fits h k = omega (arith, mul-le-mul h k)
@@ -22,6 +22,6 @@ pub five-tests : (points nodes ids lengths : ℕ) (lent : Lent) (u w x y z : Boo
     → z ≡ (y && leb (most-entries points nodes) lengths)
     → length (lent .lists .ids) ≡ ids
     → length (lent .lists .lengths) ≡ lengths
-    → z ≡ roomy points nodes lent
-unfolding roomy all-of all-after
+    → z ≡ has-room points nodes lent
+unfolding has-room all-of all-after
 five-tests points nodes ids lengths lent u w x y z e₁ e₂ e₃ e₄ e₅ i k = rw (i, k, e₅, e₄, e₃, e₂, e₁)

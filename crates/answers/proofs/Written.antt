@@ -35,9 +35,9 @@ module _ (t : Sheet) (xs ids₀ ids : List ℕ) (lengths₀ lengths : List Float
   pub written-is : n ≤ length ids₀
       → n ≤ length lengths₀
       → ids ≡ map (λ r. road-at t r .id) (take n xs) ++ drop n ids₀
-      → lengths ≡ map (λ r. road-at t r .metres) (take n xs) ++ drop n lengths₀
+      → lengths ≡ map (λ r. road-at t r .«length_m») (take n xs) ++ drop n lengths₀
       → (zeros : List ℕ) → zeros ≡ replicate (length (midOf n (length ids - n) ids)) 0
       → (zero-metres : List Float) → zero-metres ≡ replicate (length (midOf n (length lengths - n) lengths)) f0
       → lists (putMid n (length ids - n) ids zeros) (putMid n (length lengths - n) lengths zero-metres) ≡ written t (take n xs) (lists ids₀ lengths₀)
   unfolding written
-  written-is h k i l zeros z zero-metres m = ap₂ lists (padded 0 _ ids₀ ids zeros n (front-size (λ r. road-at t r .id)) h i z) (padded f0 _ lengths₀ lengths zero-metres n (front-size (λ r. road-at t r .metres)) k l m)
+  written-is h k i l zeros z zero-metres m = ap₂ lists (padded 0 _ ids₀ ids zeros n (front-size (λ r. road-at t r .id)) h i z) (padded f0 _ lengths₀ lengths zero-metres n (front-size (λ r. road-at t r .«length_m»)) k l m)

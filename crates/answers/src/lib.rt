@@ -10,7 +10,7 @@ ghost use lib.ListN.{length, getD, take, drop, replicate};
 ghost use Rattle.model.specs.Numbers.{f0};
 ghost use Rattle.model.specs.Judge.{WellFormed};
 ghost use Rattle.model.specs.Sheet.{sheet-of, road-at};
-ghost use Rattle.model.specs.Call.{Lists, written, roomy};
+ghost use Rattle.model.specs.Call.{Lists, written, has-room};
 ghost use Rattle.answers.specs.Room.{lent-of, lists};
 
 // The sizes of the lent areas in entries, each the least of its slices', and of the answer lists.
@@ -48,9 +48,9 @@ fn fits(before: bool, n: usize, size: usize) -> bool
 }
 
 // Refusal 6 does not hold: every area and list is large enough for the sheet's counts.
-pub fn roomy(c: Counts, a: Sizes) -> bool
+pub fn has_room(c: Counts, a: Sizes) -> bool
     requires { ⌜ (c .p ≤ 16) × (c .n ≤ 1024) ⌝ }
-    ensures { λ r. ⌜ ((l : Lists) → length (l .ids) ≡ a .ids → length (l .lengths) ≡ a .lengths → r ≡ roomy (c .p) (c .n) (lent-of a l)) ⌝ }
+    ensures { λ r. ⌜ ((l : Lists) → length (l .ids) ≡ a .ids → length (l .lengths) ≡ a .lengths → r ≡ has-room (c .p) (c .n) (lent-of a l)) ⌝ }
 {
     let more = c.n + 1;
     let most = (c.p + 4) * more;
@@ -111,12 +111,12 @@ fn write_ids(s: &[u8], c: Counts, path: &[usize], n: usize, ids: &mut [u64])
 // The lengths of the first n roads of `path`, at the front of `lengths`.
 fn write_lengths(s: &[u8], c: Counts, path: &[usize], n: usize, lengths: &mut [f64])
     requires { ⌜ WellFormed (now s) c × (n ≤ length (now path)) × (n ≤ length (now lengths)) × ((j : ℕ) → j < n → getD (now path) j 0 < c .e) ⌝ }
-    ensures { λ _. ⌜ now (lengths .exit) ≡ map (λ r. road-at (sheet-of (now (s .entry)) c) r .metres) (take n (now (path .entry))) ++ drop n (now (lengths .entry)) ⌝ }
+    ensures { λ _. ⌜ now (lengths .exit) ≡ map (λ r. road-at (sheet-of (now (s .entry)) c) r .«length_m») (take n (now (path .entry))) ++ drop n (now (lengths .entry)) ⌝ }
 {
     let mut j = 0;
     while j < n {
         let r = path[j];
-        lengths[j] = roads::metres(s, c, r);
+        lengths[j] = roads::length_m(s, c, r);
         j += 1;
     }
 }

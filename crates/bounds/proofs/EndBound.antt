@@ -1,4 +1,4 @@
--- What the walks at both ends do to a course: at most 4 N roads more, all of the sheet, and offsets that stay amounts. Each law is shown of an end as it was and of one with a walk's roads.
+-- What the walks at both ends do to a full path: at most 4 N roads more, all of the sheet, and offsets that stay amounts. Each law is shown of an end as it was and of one with a walk's roads.
 use Prim.Native.Nat.{ℕ, suc, _+_, _*_, _≤_, _<_, suc-le-suc}
 use mathlib.Core.Path.{_≡_, refl, sym, ap, _∙_, subst}
 use mathlib.Core.Logic.{_⊎_, inl, inr}
@@ -13,8 +13,8 @@ use Rattle.model.specs.declared.Road.{Road}
 use Rattle.model.specs.Numbers.{_⊕_}
 use Rattle.model.specs.Lists.{In, head, last, maybe}
 use Rattle.model.specs.Sheet.{Sheet, road-at, no-road}
-use Rattle.model.specs.Decode.{Course}
-use Rattle.model.specs.Ends.{Walk, extension, lrp-prefers, snap-cap-m, End, at-end, at-start, ends-of, extend-ends, finalize-path}
+use Rattle.model.specs.Decode.{FullPath}
+use Rattle.model.specs.Ends.{Walk, extension, lrp-prefers, snap-cap-m, PathEnd, at-end, at-start, final-path-of, extend-ends, finalize-path}
 use Rattle.model.proofs.Members.{either}
 use Rattle.bounds.specs.Amounts.{Amount}
 use Rattle.bounds.specs.Formed.{Formed}
@@ -49,7 +49,7 @@ maybe-holds P (some x) h k = k x refl
 
 module _ (t : Sheet) (f : Formed t) where
   -- what holds of an end as it was, and with the roads of any walk, holds of it after its walk
-  pub end-holds : (P : End → Type 0) (cap : Float) (e : End) → P e → ((w : Walk) → Trail t f true w → P (record { path = e .path ++ w .added; offset = e .offset ⊕ w .metres })) → P (at-end t cap e)
+  pub end-holds : (P : PathEnd → Type 0) (cap : Float) (e : PathEnd) → P e → ((w : Walk) → Trail t f true w → P (record { path = e .path ++ w .added; offset = e .offset ⊕ w .added-m })) → P (at-end t cap e)
   unfolding at-end
   end-holds P cap e h k =
       maybe-holds P (last (e .path)) h (λ r _.
@@ -57,7 +57,7 @@ module _ (t : Sheet) (f : Formed t) where
       maybe-holds P (last (w .added)) h (λ x _.
       either P (lrp-prefers (t .from-last) (road-at t x .target) (road-at t r .target)) (k w (extension-trail t f true cap (e .path) r w g)) h)))
 
-  pub start-holds : (P : End → Type 0) (cap : Float) (e : End) → P e → ((w : Walk) → Trail t f false w → P (record { path = reverse (w .added) ++ e .path; offset = e .offset ⊕ w .metres })) → P (at-start t cap e)
+  pub start-holds : (P : PathEnd → Type 0) (cap : Float) (e : PathEnd) → P e → ((w : Walk) → Trail t f false w → P (record { path = reverse (w .added) ++ e .path; offset = e .offset ⊕ w .added-m })) → P (at-start t cap e)
   unfolding at-start
   start-holds P cap e h k =
       maybe-holds P (head (e .path)) h (λ r _.
@@ -67,10 +67,10 @@ module _ (t : Sheet) (f : Formed t) where
 
   -- ---- at most 2 N roads at each end
 
-  end-fits : (cap : Float) (e : End) → length (at-end t cap e .path) ≤ length (e .path) + 2 * t .nodes
+  end-fits : (cap : Float) (e : PathEnd) → length (at-end t cap e .path) ≤ length (e .path) + 2 * t .nodes
   end-fits cap e = end-holds (λ b. length (b .path) ≤ length (e .path) + 2 * t .nodes) cap e (omega arith) (λ w k. omega (arith, length-append (e .path) (w .added), trail-few t f true w k))
 
-  start-fits : (cap : Float) (e : End) → length (at-start t cap e .path) ≤ length (e .path) + 2 * t .nodes
+  start-fits : (cap : Float) (e : PathEnd) → length (at-start t cap e .path) ≤ length (e .path) + 2 * t .nodes
   start-fits cap e = start-holds (λ b. length (b .path) ≤ length (e .path) + 2 * t .nodes) cap e (omega arith)
       (λ w k. omega (arith, length-append (reverse (w .added)) (e .path), length-reverse (w .added), trail-few t f false w k))
 
@@ -79,19 +79,19 @@ module _ (t : Sheet) (f : Formed t) where
   abbrev Below : List ℕ → Type 0
   Below path = (x : ℕ) → In x path → x < length (t .roads)
 
-  end-numbers : (cap : Float) (e : End) → Below (e .path) → Below (at-end t cap e .path)
+  end-numbers : (cap : Float) (e : PathEnd) → Below (e .path) → Below (at-end t cap e .path)
   end-numbers cap e h = end-holds (λ b. Below (b .path)) cap e h (λ w k x m. elim (List·Memᴰ·append-cases (e .path) m) [ inl j ↦ h x j | inr j ↦ k .forced x j .below ])
 
-  start-numbers : (cap : Float) (e : End) → Below (e .path) → Below (at-start t cap e .path)
+  start-numbers : (cap : Float) (e : PathEnd) → Below (e .path) → Below (at-start t cap e .path)
   start-numbers cap e h = start-holds (λ b. Below (b .path)) cap e h (λ w k x m. elim (List·Memᴰ·append-cases (reverse (w .added)) m) [ inl j ↦ k .forced x (in-reverse (w .added) j) .below | inr j ↦ h x j ])
 
   -- ---- offsets
 
-  end-amount : (cap : Float) (e : End) → Amount (e .offset) → Amount (at-end t cap e .offset)
-  end-amount cap e h = end-holds (λ b. Amount (b .offset)) cap e h (λ w k. add-amount (e .offset) (w .metres) h (k .metres))
+  end-amount : (cap : Float) (e : PathEnd) → Amount (e .offset) → Amount (at-end t cap e .offset)
+  end-amount cap e h = end-holds (λ b. Amount (b .offset)) cap e h (λ w k. add-amount (e .offset) (w .added-m) h (k .added-m))
 
-  start-amount : (cap : Float) (e : End) → Amount (e .offset) → Amount (at-start t cap e .offset)
-  start-amount cap e h = start-holds (λ b. Amount (b .offset)) cap e h (λ w k. add-amount (e .offset) (w .metres) h (k .metres))
+  start-amount : (cap : Float) (e : PathEnd) → Amount (e .offset) → Amount (at-start t cap e .offset)
+  start-amount cap e h = start-holds (λ b. Amount (b .offset)) cap e h (λ w k. add-amount (e .offset) (w .added-m) h (k .added-m))
 
   -- a road of the sheet has its place as its number
   pub own-road : (r : Road) → In r (t .roads) → (r .number < length (t .roads)) × (road-at t (r .number) ≡ r)
@@ -102,9 +102,9 @@ module _ (t : Sheet) (f : Formed t) where
   pub number-below : (r : Road) → In r (t .roads) → r .number < length (t .roads)
   number-below r m = own-road r m .0
 
-  -- ---- a whole course
+  -- ---- a whole full path
 
-  module _ (k : Course) where
+  module _ (k : FullPath) where
     -- how far each walk may go
     abbrev start-cap : Float
     start-cap = snap-cap-m (t .settings) (k .first-segment)
@@ -112,12 +112,12 @@ module _ (t : Sheet) (f : Formed t) where
     abbrev end-cap : Float
     end-cap = snap-cap-m (t .settings) (k .last-segment)
 
-    -- the course before the walk at its end, and before the one at its start
-    abbrev behind : End
-    behind = record { path = ends-of k .path; offset = k .last-segment .end-offset }
+    -- the full path before the walk at its end, and before the one at its start
+    abbrev behind : PathEnd
+    behind = record { path = final-path-of k .path; offset = k .last-segment .end-offset-m }
 
-    abbrev before : End
-    before = record { path = at-end t end-cap behind .path; offset = k .first-segment .start-offset }
+    abbrev before : PathEnd
+    before = record { path = at-end t end-cap behind .path; offset = k .first-segment .start-offset-m }
 
     -- at most 4 N roads more; every number is a road's; the offsets stay amounts
     pub ends-fit : length (finalize-path t k .path) ≤ length (k .roads) + 4 * t .nodes
@@ -130,6 +130,6 @@ module _ (t : Sheet) (f : Formed t) where
         start-numbers start-cap before (end-numbers end-cap behind
         (λ x m. let j = Memᴰ·of-map (λ (r : Road). r .number) (k .roads) m in subst (λ (i : ℕ). i < length (t .roads)) (j .2) (number-below (j .0) (h (j .0) (j .1)))))
 
-    pub ends-amounts : Amount (k .first-segment .start-offset) → Amount (k .last-segment .end-offset) → Amount (finalize-path t k .start-offset) × Amount (finalize-path t k .end-offset)
+    pub ends-amounts : Amount (k .first-segment .start-offset-m) → Amount (k .last-segment .end-offset-m) → Amount (finalize-path t k .start-offset) × Amount (finalize-path t k .end-offset)
     unfolding finalize-path extend-ends
     ends-amounts p q = (start-amount start-cap before p, end-amount end-cap behind q)

@@ -10,7 +10,7 @@ use lib.ListN.{length}
 use lib.Ieee.Fits.{and-l, and-r, eq→eqb}
 use borrow.Author.Tests.{eqb-true, not-false}
 use Rattle.model.specs.declared.Neighbour.{Neighbour}
-use Rattle.model.specs.Lists.{In, cons-if, any, keep, fold}
+use Rattle.model.specs.Lists.{In, cons-if, any, filter, fold}
 use Rattle.model.specs.Sheet.{Sheet, road-at, numbers}
 use Rattle.model.specs.Ends.{grown, note, meet-road, around, ins-of, outs-of, is-choice, passes-through, is-valid-node}
 use Rattle.model.proofs.Members.{or-l, or-r, here, any-of}
@@ -109,26 +109,26 @@ module _ (t : Sheet) (n : ℕ) where
       go false false = o
 
   -- each road in is counted
-  counted-in : (rs : List ℕ) (xs : List Neighbour) → ins-of xs + length (keep arrives rs) ≤ ins-of (after xs rs)
-  unfolding fold keep cons-if meet-road
+  counted-in : (rs : List ℕ) (xs : List Neighbour) → ins-of xs + length (filter arrives rs) ≤ ins-of (after xs rs)
+  unfolding fold filter cons-if meet-road
   counted-in [] xs = omega arith
   counted-in (r ∷ rs) xs = go (eqb (road-at t r .target) n) (eqb (road-at t r .source) n) (counted-in rs)
     where
-      go : (a b : Bool) → ((ys : List Neighbour) → ins-of ys + length (keep arrives rs) ≤ ins-of (after ys rs))
-          → ins-of xs + length (cons-if a r (keep arrives rs)) ≤ ins-of (after (cond a (note (road-at t r .source) true xs) (cond b (note (road-at t r .target) false xs) xs)) rs)
+      go : (a b : Bool) → ((ys : List Neighbour) → ins-of ys + length (filter arrives rs) ≤ ins-of (after ys rs))
+          → ins-of xs + length (cons-if a r (filter arrives rs)) ≤ ins-of (after (cond a (note (road-at t r .source) true xs) (cond b (note (road-at t r .target) false xs) xs)) rs)
       go true b ih = omega (arith, ih (note (road-at t r .source) true xs), ins-note (road-at t r .source) true xs)
       go false true ih = omega (arith, ih (note (road-at t r .target) false xs), ins-note (road-at t r .target) false xs)
       go false false ih = ih xs
 
   -- each road out is counted, unless the node is its own neighbour
-  counted-out : (rs : List ℕ) (xs : List Neighbour) → (Own n (after xs rs) → ⊥) → outs-of xs + length (keep leaves rs) ≤ outs-of (after xs rs)
-  unfolding fold keep cons-if meet-road
+  counted-out : (rs : List ℕ) (xs : List Neighbour) → (Own n (after xs rs) → ⊥) → outs-of xs + length (filter leaves rs) ≤ outs-of (after xs rs)
+  unfolding fold filter cons-if meet-road
   counted-out [] xs h = omega arith
   counted-out (r ∷ rs) xs h = go (eqb (road-at t r .target) n) (eqb (road-at t r .source) n) refl (counted-out rs) h
     where
-      go : (a b : Bool) → eqb (road-at t r .source) n ≡ b → ((ys : List Neighbour) → (Own n (after ys rs) → ⊥) → outs-of ys + length (keep leaves rs) ≤ outs-of (after ys rs))
+      go : (a b : Bool) → eqb (road-at t r .source) n ≡ b → ((ys : List Neighbour) → (Own n (after ys rs) → ⊥) → outs-of ys + length (filter leaves rs) ≤ outs-of (after ys rs))
           → (Own n (after (cond a (note (road-at t r .source) true xs) (cond b (note (road-at t r .target) false xs) xs)) rs) → ⊥)
-          → outs-of xs + length (cons-if b r (keep leaves rs)) ≤ outs-of (after (cond a (note (road-at t r .source) true xs) (cond b (note (road-at t r .target) false xs) xs)) rs)
+          → outs-of xs + length (cons-if b r (filter leaves rs)) ≤ outs-of (after (cond a (note (road-at t r .source) true xs) (cond b (note (road-at t r .target) false xs) xs)) rs)
       go true true e ih k = absurd (k (fold-own rs (note (road-at t r .source) true xs) (note-self n (road-at t r .source) true xs (eqb-true (road-at t r .source) n e))))
       go true false e ih k = omega (arith, ih (note (road-at t r .source) true xs) k, outs-note (road-at t r .source) true xs)
       go false true e ih k = omega (arith, ih (note (road-at t r .target) false xs) k, outs-note (road-at t r .target) false xs)
@@ -152,11 +152,11 @@ module _ (t : Sheet) (n : ℕ) where
       record { two = eqb→eq (length xs) 2 (and-l a (b && c) p); plain = and-r b c (and-r a (b && c) p) }
 
   -- at most two roads in, and two out
-  pub ins-few : is-valid-node t n ≡ false → length (keep arrives (numbers t)) ≤ 2
+  pub ins-few : is-valid-node t n ≡ false → length (filter arrives (numbers t)) ≤ 2
   unfolding around ins-of
   ins-few h = let k = through h in omega (arith, counted-in (numbers t) [], few-ins n (around t n) (k .plain), k .two)
 
-  pub outs-few : is-valid-node t n ≡ false → length (keep leaves (numbers t)) ≤ 2
+  pub outs-few : is-valid-node t n ≡ false → length (filter leaves (numbers t)) ≤ 2
   unfolding around outs-of
   outs-few h =
       let k = through h in

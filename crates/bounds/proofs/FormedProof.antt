@@ -16,7 +16,7 @@ use Rattle.model.specs.Bytes.{u64-at, f64-at}
 use Rattle.model.specs.Layout.{counts-of, road-bytes, points-bytes, rows-bytes}
 use Rattle.model.specs.Table.{most-f64}
 use Rattle.model.specs.Judge.{judged, source-of, start-of, entry-of, row-count, rows-before, WellFormed}
-use Rattle.model.specs.Sheet.{Stop, settings-of, row-of, stop-of, road-of, part, sheet-of, road-at, list-at, parsed}
+use Rattle.model.specs.Sheet.{MeasuredPoint, settings-of, row-of, measured-point, road-of, part, sheet-of, road-at, list-at, parsed}
 use Rattle.model.proofs.Members.{in-tab}
 use Rattle.model.proofs.Judging.{well-formed}
 use Rattle.model.proofs.Fields.{settings-most, length-most, source-below, target-below, entry-below, row-road-below, row-distance-most, row-along-most, row-line-most}
@@ -40,7 +40,7 @@ module _ (s : List ℕ) (c : Counts) (w : WellFormed s c) where
   road-facts r h = record {
     source = rw (node-count s c, source-is s c r h) (source-below s c (w .sound) r h);
     target = rw (node-count s c, target-is s c r h) (target-below s c (w .sound) r h);
-    metres = rw (metres-is s c r h) (finite-at s _ (length-most s c (w .sound) r h));
+    «length_m» = rw (metres-is s c r h) (finite-at s _ (length-most s c (w .sound) r h));
   }
 
   in-roads : (r : Road) → In r (sheet-of s c .roads) → (k : ℕ) × (k < c .e) × (road-at (sheet-of s c) k ≡ r)
@@ -78,21 +78,21 @@ module _ (s : List ℕ) (c : Counts) (w : WellFormed s c) where
   row-facts : (k : ℕ) → k < c .m → RowFacts (sheet-of s c) (row-of (rows-bytes s c) k)
   row-facts k h = record {
     road = rw (road-count s c, row-road-is s c k h) (row-road-below s c (w .sound) k h);
-    distance = rw (row-distance-is s c k h) (finite-at s _ (row-distance-most s c (w .sound) k h));
-    along = rw (row-along-is s c k h) (finite-at s _ (row-along-most s c (w .sound) k h));
-    line = rw (row-line-is s c k h) (finite-at s _ (row-line-most s c (w .sound) k h));
+    «distance_m» = rw (row-distance-is s c k h) (finite-at s _ (row-distance-most s c (w .sound) k h));
+    «along_m» = rw (row-along-is s c k h) (finite-at s _ (row-along-most s c (w .sound) k h));
+    «length_m» = rw (row-line-is s c k h) (finite-at s _ (row-line-most s c (w .sound) k h));
   }
 
-  stop-facts : (i : ℕ) → i < c .p → (x : Row) → In x (stop-of (points-bytes s c) (rows-bytes s c) i .rows) → RowFacts (sheet-of s c) x
-  stop-facts i h x m =
+  point-facts : (i : ℕ) → i < c .p → (x : Row) → In x (measured-point (points-bytes s c) (rows-bytes s c) i .rows) → RowFacts (sheet-of s c) x
+  point-facts i h x m =
       let k = in-tab (row-count s i) (rows-before s i) (row-of (rows-bytes s c)) (subst (In x) (rows-are s c i h) m) in
       subst (RowFacts (sheet-of s c)) (k .2) (row-facts (rows-before s i + k .0) (omega (arith, k .1, rows-within s c (w .rows) i h)))
 
-  in-stops : (p : Stop) → In p (sheet-of s c .stops) → (x : Row) → In x (p .rows) → RowFacts (sheet-of s c) x
+  in-points : (p : MeasuredPoint) → In p (sheet-of s c .points) → (x : Row) → In x (p .rows) → RowFacts (sheet-of s c) x
   unfolding sheet-of
-  in-stops p m x n =
-      let k = in-tab (c .p) 0 (stop-of (points-bytes s c) (rows-bytes s c)) m in
-      stop-facts (0 + k .0) (omega (arith, k .1)) x (subst (λ (q : Stop). In x (q .rows)) (sym (k .2)) n)
+  in-points p m x n =
+      let k = in-tab (c .p) 0 (measured-point (points-bytes s c) (rows-bytes s c)) m in
+      point-facts (0 + k .0) (omega (arith, k .1)) x (subst (λ (q : MeasuredPoint). In x (q .rows)) (sym (k .2)) n)
 
   -- ---- settings
 
@@ -110,7 +110,7 @@ module _ (s : List ℕ) (c : Counts) (w : WellFormed s c) where
     roads = λ r m. let k = in-roads r m in subst (RoadFacts (sheet-of s c)) (k .2) (road-facts (k .0) (k .1));
     numbered = λ i h. number-is s c i (omega (arith, road-count s c));
     lists = in-list;
-    rows = in-stops;
+    rows = in-points;
     slip = slip-finite;
     access = access-finite;
   }

@@ -54,8 +54,8 @@ pub record Sound (q : Query) (start : ℕ) (ls : List (Option Label)) : Type 0 w
 pub record Live (ls : List (Option Label)) (e : Entry) : Type 0 where
   pub label : Label
   pub is : label-at ls (e .node) ≡ some label
-  pub cost : Amount (e .cost)
-  pub low : rank (label .penalised) ≤ rank (e .cost)
+  pub g-score : Amount (e .g-score)
+  pub low : rank (label .penalised) ≤ rank (e .g-score)
 
 -- ---- the start's label alone
 
@@ -91,8 +91,8 @@ module _ (q : Query) (start : ℕ) (inside : start < q .nodes) where
     back = λ v l r h k. absurd (Option·none-ne-some r (ap (λ (x : Label). x .came-from) (only v l h .1) ∙ k));
   }
 
-  pub first-live : (key : Float) → Live (first-labels q start) record { key = key; cost = f0; node = start }
-  first-live key = record { label = first-label; is = at-start; cost = zero-amount; low = le-refl (rank f0) }
+  pub first-live : (key : Float) → Live (first-labels q start) record { f-score = key; g-score = f0; node = start }
+  first-live key = record { label = first-label; is = at-start; g-score = zero-amount; low = le-refl (rank f0) }
 
 -- ---- one more label
 
@@ -120,26 +120,26 @@ module _ (q : Query) (start : ℕ) (ways : Ways q) (ls : List (Option Label)) (s
   way = ways .roads (e .node) r leaves
 
   -- its two costs are amounts, and the penalised one ranks no lower than the entry's
-  metres : Amount (r .metres)
-  metres = finite-amount (r .metres) (way .metres)
+  metres : Amount (r .«length_m»)
+  metres = finite-amount (r .«length_m») (way .«length_m»)
 
   real : Amount (new .real)
   unfolding real-of
-  real = add-amount (real-of (label-at ls (e .node))) (r .metres) (rw (live .is) (s .reals (e .node) (live .label) (live .is))) metres
+  real = add-amount (real-of (label-at ls (e .node))) (r .«length_m») (rw (live .is) (s .reals (e .node) (live .label) (live .is))) metres
 
-  so-far : Amount (e .cost ⊕ r .metres)
-  so-far = add-amount (e .cost) (r .metres) (live .cost) metres
+  so-far : Amount (e .g-score ⊕ r .«length_m»)
+  so-far = add-amount (e .g-score) (r .«length_m») (live .g-score) metres
 
   cost : Amount (new .penalised)
-  cost = add-amount (e .cost ⊕ r .metres) (q .penalty r) so-far (ways .penalties r)
+  cost = add-amount (e .g-score ⊕ r .«length_m») (q .penalty r) so-far (ways .penalties r)
 
-  above : rank (e .cost) ≤ rank (new .penalised)
-  above = le-trans (add-rank (e .cost) (r .metres) (live .cost) metres) (add-rank (e .cost ⊕ r .metres) (q .penalty r) so-far (ways .penalties r))
+  above : rank (e .g-score) ≤ rank (new .penalised)
+  above = le-trans (add-rank (e .g-score) (r .«length_m») (live .g-score) metres) (add-rank (e .g-score ⊕ r .«length_m») (q .penalty r) so-far (ways .penalties r))
 
   -- a label at v is above the new one
   strict : (l : Label) → label-at ls v ≡ some l → rank (new .penalised) < rank (l .penalised)
   unfolding dominated
-  strict l h = nle-rank (l .penalised) (new .penalised) (s .costs v l h) cost (subst (λ (o : Option Label). T (not (dominated o (new .penalised)))) h (not-second (q .bound <ᶠ new .real) (dominated (label-at ls v) (new .penalised)) free))
+  strict l h = nle-rank (l .penalised) (new .penalised) (s .costs v l h) cost (subst (λ (o : Option Label). T (not (dominated o (new .penalised)))) h (not-second (q .max-cost <ᶠ new .real) (dominated (label-at ls v) (new .penalised)) free))
 
   -- the labels afterwards
   at-v : label-at next v ≡ some new
@@ -223,9 +223,9 @@ module _ (q : Query) (start : ℕ) (ways : Ways q) (ls : List (Option Label)) (s
 
   pub set-live : (x : Entry) → Live ls x → Live next x
   set-live x a = elim (same-or-other (x .node) v) [
-    | inl h ↦ record { label = new; is = rw h at-v; cost = a .cost; low = omega (arith, strict (a .label) (rw h at (a .is)), a .low) }
-    | inr h ↦ record { label = a .label; is = elsewhere (x .node) h ∙ a .is; cost = a .cost; low = a .low }
+    | inl h ↦ record { label = new; is = rw h at-v; g-score = a .g-score; low = omega (arith, strict (a .label) (rw h at (a .is)), a .low) }
+    | inr h ↦ record { label = a .label; is = elsewhere (x .node) h ∙ a .is; g-score = a .g-score; low = a .low }
   ]
 
-  pub new-live : (key : Float) → Live next record { key = key; cost = new .penalised; node = v }
-  new-live key = record { label = new; is = at-v; cost = cost; low = le-refl (rank (new .penalised)) }
+  pub new-live : (key : Float) → Live next record { f-score = key; g-score = new .penalised; node = v }
+  new-live key = record { label = new; is = at-v; g-score = cost; low = le-refl (rank (new .penalised)) }

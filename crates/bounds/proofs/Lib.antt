@@ -19,8 +19,8 @@ pub mod Sources
 pub mod Searches
 pub mod Legs
 pub mod Lines
-pub mod Courses
-pub mod CourseRoads
+pub mod PathLaws
+pub mod PathRoads
 pub mod RoomProof
 pub mod SomeRoad
 pub mod ListProof

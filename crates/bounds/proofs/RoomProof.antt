@@ -1,4 +1,4 @@
--- A leg gives at most N + 1 coverages: N - 1 roads of a search and two terminal ones. So a course has at most P (N + 1), and the ends add at most 4 N roads.
+-- A leg gives at most N + 1 coverages: N - 1 roads of a search and two terminal ones. So a full path has at most P (N + 1), and the ends add at most 4 N roads.
 use Prim.Native.Nat.{ℕ, suc, _+_, _*_, _≤_, zero-le}
 use mathlib.Core.Bool.{Bool, true, false, cond}
 use mathlib.Core.Option.{Option, none, some}
@@ -10,8 +10,8 @@ use lib.Ieee.{Float}
 use Rattle.model.specs.declared.Road.{Road}
 use Rattle.model.specs.Lists.{last, maybe, fold}
 use Rattle.model.specs.Sheet.{Sheet, parsed}
-use Rattle.model.specs.Legs.{Coverage, Route, Pair, route-alone, start-part, end-part, length-over, stays, terminal, whole, route-over}
-use Rattle.model.specs.Decode.{Course, roads-of, same-number, append, cover, extended, course-of}
+use Rattle.model.specs.Legs.{EdgeCoverage, PathResult, Pair, same-edge-path, start-part, end-part, path-cost, stays, terminal, whole, path-over}
+use Rattle.model.specs.Decode.{FullPath, roads-of, same-number, append, cover, extended, path-of-leg}
 use Rattle.model.specs.Ends.{finalize-path}
 use Rattle.model.proofs.Members.{either}
 use Rattle.bounds.specs.Formed.{Formed}
@@ -19,7 +19,7 @@ use Rattle.bounds.specs.Theorems.{RoomBound, RoomTheorem}
 use Rattle.bounds.proofs.FormedProof.{formed}
 use Rattle.bounds.proofs.EndBound.{ends-fit}
 use Rattle.bounds.proofs.Lines.{Kept, Met}
-use Rattle.bounds.proofs.Courses.{InSheet, sheet-roads, RouteLaw, course-law}
+use Rattle.bounds.proofs.PathLaws.{InSheet, sheet-roads, RouteLaw, path-law}
 
 -- ---- a leg's roads and coverages behind those already there
 
@@ -35,12 +35,12 @@ append-length path (r ∷ rs) = go (last path)
     go none = behind (r ∷ rs) (le-refl _)
     go (some x) = behind (cond (same-number x r) rs (r ∷ rs)) (either (λ (xs : List Road). length xs ≤ length (r ∷ rs)) (same-number x r) (omega arith) (le-refl _))
 
-cover-length : (xs : List Coverage) (c : Coverage) → length (cover xs c) ≤ suc (length xs)
+cover-length : (xs : List EdgeCoverage) (c : EdgeCoverage) → length (cover xs c) ≤ suc (length xs)
 unfolding cover
 cover-length [] c = le-refl 1
-cover-length (x ∷ xs) c = let h = cover-length xs c in either (λ (ys : List Coverage). length ys ≤ suc (length (x ∷ xs))) (same-number (x .road) (c .road)) (omega arith) (omega arith)
+cover-length (x ∷ xs) c = let h = cover-length xs c in either (λ (ys : List EdgeCoverage). length ys ≤ suc (length (x ∷ xs))) (same-number (x .road) (c .road)) (omega arith) (omega arith)
 
-pub covers-length : (xs cs : List Coverage) → length (fold cover xs cs) ≤ length xs + length cs
+pub covers-length : (xs cs : List EdgeCoverage) → length (fold cover xs cs) ≤ length xs + length cs
 unfolding fold
 covers-length xs [] = omega arith
 covers-length xs (c ∷ cs) = let h = covers-length (cover xs c) cs in let k = cover-length xs c in omega arith
@@ -50,8 +50,8 @@ unfolding terminal
 terminal-length true r part = le-refl 1
 terminal-length false r part = zero-le
 
-over-length : (p : Pair) (total : Float) (middle : List Road) → length (route-over p total middle .coverages) ≤ length middle + 2
-unfolding route-over
+over-length : (p : Pair) (total : Float) (middle : List Road) → length (path-over p total middle .coverages) ≤ length middle + 2
+unfolding path-over
 over-length p total middle =
     let a = terminal (stays (start-part p) total) (p .start .road) (start-part p) in
     let b = terminal (stays (end-part p) total) (p .end .road) (end-part p) in
@@ -59,37 +59,37 @@ over-length p total middle =
     let k : length b ≤ 1 = terminal-length (stays (end-part p) total) (p .end .road) (end-part p) in
     omega (arith, length-append (a ++ map whole middle) b, length-append a (map whole middle), length-map middle whole)
 
--- ---- legs and courses
+-- ---- legs and full paths
 
-abbrev Fits : Sheet → Route → Type 0
+abbrev Fits : Sheet → PathResult → Type 0
 Fits t r = length (r .coverages) ≤ t .nodes + 1
 
--- The course k after n legs.
-record Room (t : Sheet) (n : ℕ) (k : Course) : Type 0 where
+-- The full path k after n legs.
+record Room (t : Sheet) (n : ℕ) (k : FullPath) : Type 0 where
   roads : length (k .roads) ≤ n * (t .nodes + 1)
   coverages : length (k .coverages) ≤ n * (t .nodes + 1)
 
 -- a candidate's road ends at a node, so there is one
 routes-fit : (t : Sheet) → Formed t → RouteLaw t (InSheet t) (Fits t)
-unfolding route-alone
+unfolding same-edge-path
 routes-fit t wf = record {
-  alone = λ b p x y h. omega arith;
-  over = λ p x y cost middle f. omega (arith, wf .roads (p .start .road) (x .road) .target, over-length p (length-over p cost) middle, f .few);
+  same-edge = λ b p x y h. omega arith;
+  over = λ p x y cost middle f. omega (arith, wf .roads (p .start .road) (x .road) .target, over-length p (path-cost p cost) middle, f .few);
 }
 
 legs-fit : (t : Sheet) → Kept (Fits t) (Room t)
-unfolding extended course-of
+unfolding extended path-of-leg
 legs-fit t = record {
   begins = record { roads = zero-le; coverages = zero-le };
   extends = λ i k leg r h f. record {
-    roads = omega (arith, h .roads, append-length (k .roads) (roads-of r), length-map (r .coverages) (λ (c : Coverage). c .road));
+    roads = omega (arith, h .roads, append-length (k .roads) (roads-of r), length-map (r .coverages) (λ (c : EdgeCoverage). c .road));
     coverages = omega (arith, h .coverages, covers-length (k .coverages) (r .coverages));
   };
-  alone = λ leg r f. record { roads = omega (arith, length-map (r .coverages) (λ (c : Coverage). c .road)); coverages = omega arith };
+  same-edge = λ leg r f. record { roads = omega (arith, length-map (r .coverages) (λ (c : EdgeCoverage). c .road)); coverages = omega arith };
 }
 
 -- at most P legs, then the ends
-room : (t : Sheet) (k : Course) (c : Coverage) → length (finalize-path t k .path) ≤ length (k .roads) + 4 * t .nodes → Met (Room t) (length (t .stops)) k c → RoomBound t k
+room : (t : Sheet) (k : FullPath) (c : EdgeCoverage) → length (finalize-path t k .path) ≤ length (k .roads) + 4 * t .nodes → Met (Room t) (length (t .points)) k c → RoomBound t k
 room t k c e m =
     let h = mul-le-mul-right (t .nodes + 1) (m .few) in
     let roads = le-trans (m .holds .roads) h in
@@ -100,4 +100,4 @@ pub room-theorem : RoomTheorem
 room-theorem s fine slots k c e =
     let t = parsed s in
     let wf = formed s fine in
-    room t k c (ends-fit t wf k) (course-law t wf (InSheet t) (sheet-roads t wf) slots (Fits t) (routes-fit t wf) (Room t) (legs-fit t) k c e)
+    room t k c (ends-fit t wf k) (path-law t wf (InSheet t) (sheet-roads t wf) slots (Fits t) (routes-fit t wf) (Room t) (legs-fit t) k c e)

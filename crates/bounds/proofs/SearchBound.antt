@@ -9,13 +9,13 @@ use lib.ListN.{length, set, length-append}
 use lib.Ieee.{Float}
 use Rattle.model.specs.declared.Road.{Road}
 use Rattle.model.specs.Lists.{In}
-use Rattle.model.specs.Search.{Query, Found, found, none-found, full, Entry, State, label-at, no-entry, entry-at, key-of, real-of, relax, trace, take-step, begun, search-within, bounded-astar}
+use Rattle.model.specs.Search.{Query, SearchEnd, found, none-found, full, Entry, State, label-at, no-entry, entry-at, f-score-of, real-of, relax, trace, take-step, begun, search-within, bounded-astar}
 use Rattle.model.proofs.Members.{Every, every-snoc, here, in-getD}
 use Rattle.bounds.specs.Amounts.{Amount}
 use Rattle.bounds.specs.Routes.{Ways, Leads}
 use Rattle.bounds.specs.Theorems.{SearchTheorem}
 use Rattle.bounds.proofs.HeapLaws.{push-held, pop-held}
-use Rattle.bounds.proofs.Turns.{offer, entry-of, relax-by, Kept, popped, StepsTo, arrived, take-step-by, visit-keeps, run-keeps, visit-same, take-step-same, run-same, run-enough}
+use Rattle.bounds.proofs.Turns.{offer, entry-for, relax-by, Kept, popped, StepsTo, arrived, take-step-by, visit-keeps, run-keeps, visit-same, take-step-same, run-same, run-enough}
 use Rattle.bounds.proofs.Labels.{Sound, Live, first-sound, first-live, set-sound, set-live, new-live}
 use Rattle.bounds.proofs.Traces.{trace-length, left, left-most, trace-enough, trace-leads}
 
@@ -35,14 +35,14 @@ pub begun-inv : (q : Query) (start : ℕ) → start < q .nodes → Inv q start (
 unfolding begun
 begun-inv q start h = record {
   sound = first-sound q start h;
-  made = λ e m. rw (List·Memᴰ·eq-of-singleton m) (first-live q start h (q .ahead start));
+  made = λ e m. rw (List·Memᴰ·eq-of-singleton m) (first-live q start h (q .heuristic start));
   heap = λ k m. rw (List·Memᴰ·eq-of-singleton m) (zero-lt-suc 0);
 }
 
 -- the entry that a turn takes
 pub taken-inv : (q : Query) (start : ℕ) (st : State) (top : ℕ) (rest : List ℕ) → Inv q start st → st .heap ≡ top ∷ rest → With q start (entry-at (st .made) top) (popped st)
 taken-inv q start st top rest v e = (
-  record { sound = v .sound; made = v .made; heap = pop-held (λ k. k < length (st .made)) (key-of (st .made)) (st .heap) (v .heap) .every },
+  record { sound = v .sound; made = v .made; heap = pop-held (λ k. k < length (st .made)) (f-score-of (st .made)) (st .heap) (v .heap) .every },
   v .made (entry-at (st .made) top) (in-getD (st .made) top no-entry (v .heap top (rw e here))),
 )
 
@@ -54,13 +54,13 @@ relax-inv q start ways slots e r m st w =
     let ls = st .labels in
     let s = w .0 .sound in
     let l = offer q e ls r in
-    let x = entry-of q (r .target) l in
+    let x = entry-for q (r .target) l in
     let longer = length-append (st .made) (x ∷ []) in
     let live = set-live q start ways ls s e (w .1) r m free in (
       record {
         sound = set-sound q start ways ls s e (w .1) r m free;
-        made = every-snoc (Live (set ls (r .target) (some l))) (st .made) x (λ y n. live y (w .0 .made y n)) (new-live q start ways ls s e (w .1) r m free (x .key));
-        heap = push-held (λ i. i < length (st .made ++ x ∷ [])) (key-of (st .made ++ x ∷ [])) (st .heap) (length (st .made)) (λ i n. omega (arith, w .0 .heap i n)) (omega arith) .every;
+        made = every-snoc (Live (set ls (r .target) (some l))) (st .made) x (λ y n. live y (w .0 .made y n)) (new-live q start ways ls s e (w .1) r m free (x .f-score));
+        heap = push-held (λ i. i < length (st .made ++ x ∷ [])) (f-score-of (st .made ++ x ∷ [])) (st .heap) (length (st .made)) (λ i n. omega (arith, w .0 .heap i n)) (omega arith) .every;
       },
       live e (w .1),
     ))
@@ -74,7 +74,7 @@ pub record Finds (q : Query) (start : ℕ) (cost : Float) (roads : List Road) : 
   pub few : length roads ≤ q .nodes - 1
   pub amount : Amount cost
 
-abbrev pub Good : Query → ℕ → Found → Type 0
+abbrev pub Good : Query → ℕ → SearchEnd → Type 0
 Good q start (found cost roads) = Finds q start cost roads
 Good q start none-found = Unit {0}
 Good q start full = Unit {0}

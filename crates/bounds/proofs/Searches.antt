@@ -16,13 +16,13 @@ use Rattle.model.specs.Numbers.{_≤ᶠ_, f0}
 use Rattle.model.specs.Lists.{In, maybe, sort}
 use Rattle.model.specs.Layout.{point-along-line, counts-of}
 use Rattle.model.specs.Judge.{judged}
-use Rattle.model.specs.Sheet.{Stop, Sheet, leaving-roads, sheet-of, parsed}
-use Rattle.model.specs.View.{Leg, is-slip, permits, penalty, limits-of, place-of, leg-of, leg-stops, view}
+use Rattle.model.specs.Sheet.{MeasuredPoint, Sheet, leaving-roads, sheet-of, parsed}
+use Rattle.model.specs.View.{Leg, is-slip, permits, penalty, limits-of, projected-point, leg-of, leg-starts, view}
 use Rattle.model.specs.Candidates.{Candidate, find-candidates, closest-point}
-use Rattle.model.specs.Search.{Query, Searcher, Found, found, search-within, bounded-astar}
-use Rattle.model.specs.Legs.{Scored, Pair, Asked, nothing, alone, across, Seek, Sought, best-score, leg-pairs, try-same-edge-solution, asked, middle-of, settled, try-pair, end-or-try, next-pair, try-pairs, by-sum, else-pairs, find-best-path}
-use Rattle.model.specs.Decode.{query-of, seek-of, Course, no-course, Outcome, refused, with-primary, extended, course-of, after-leg, decode-line, decode-point-along-line, decode-legs, first-empty, require-close-candidate, decode-points, outcome}
-use Rattle.model.specs.Call.{Lists, Lent, roomy, answered, untouched, decode-by, decode-sheet, after-judging, decode}
+use Rattle.model.specs.Search.{Query, Search, SearchEnd, found, search-within, bounded-astar}
+use Rattle.model.specs.Legs.{Scored, Pair, PairPlan, skip, same-edge, by-search, MiddleSearch, LegEnd, best-score, leg-pairs, try-same-edge-solution, pair-plan, middle-of, after-pair, try-pair, end-or-try, next-pair, try-pairs, by-sum, else-pairs, find-best-path}
+use Rattle.model.specs.Decode.{query-of, middle-search, FullPath, no-path-yet, Outcome, refused, with-primary, extended, path-of-leg, after-leg, decode-line, decode-point-along-line, decode-legs, first-empty, require-close-candidate, decode-points, outcome}
+use Rattle.model.specs.Call.{Lists, Lent, has-room, answered, untouched, decode-by, decode-sheet, after-judging, decode}
 use Rattle.model.proofs.Members.{here, either, in-keep, in-sort}
 use Rattle.bounds.specs.Amounts.{Amount}
 use Rattle.bounds.specs.Formed.{Formed}
@@ -31,7 +31,7 @@ use Rattle.bounds.specs.Theorems.{FuelTheorem, decode-within}
 use Rattle.bounds.proofs.AmountLaws.{finite-amount, zero-amount}
 use Rattle.bounds.proofs.FormedProof.{formed}
 use Rattle.bounds.proofs.SearchBound.{search-theorem}
-use Rattle.bounds.proofs.Room.{roomy-facts}
+use Rattle.bounds.proofs.Room.{room-facts}
 use Rattle.bounds.proofs.Sources.{found-on-roads, in-leg-pairs, leaving-road}
 
 -- ---- the ways that a leg gives a search
@@ -40,30 +40,30 @@ penalty-amount : {t : Sheet} → Formed t → (p : Point) (r : Road) → Amount 
 unfolding penalty limits-of
 penalty-amount wf p r = either Amount (is-slip r) (finite-amount _ (wf .slip)) (either Amount (r .access) (finite-amount _ (wf .access)) zero-amount)
 
-pub leg-ways : (t : Sheet) → Formed t → (p : Stop) (goal : ℕ) (bound : Float) → Ways (query-of (view t) (leg-of t p) goal bound)
+pub leg-ways : (t : Sheet) → Formed t → (p : MeasuredPoint) (goal : ℕ) (bound : Float) → Ways (query-of (view t) (leg-of t p) goal bound)
 unfolding query-of view
 leg-ways t wf p goal bound = record {
   roads = λ v r m.
       let k = leaving-road wf v r (in-keep (permits (limits-of (t .settings) (p .point) .constraints)) (leaving-roads t v) m .0) in
       let facts = wf .roads r (k .0) in
-      record { source = k .1; target = facts .target; metres = facts .metres };
+      record { source = k .1; target = facts .target; «length_m» = facts .«length_m» };
   penalties = penalty-amount wf (p .point);
 }
 
 -- ---- two ways of seeking that agree wherever a leg asks
 
-module _ (b : Limits) (f g : Seek) where
-  middle-same : (p : Pair) → ((bound : Float) → f (p .start .road .target) (p .end .road .source) bound ≡ g (p .start .road .target) (p .end .road .source) bound) → (a : Asked) → middle-of f p a ≡ middle-of g p a
+module _ (b : Limits) (f g : MiddleSearch) where
+  middle-same : (p : Pair) → ((bound : Float) → f (p .start .road .target) (p .end .road .source) bound ≡ g (p .start .road .target) (p .end .road .source) bound) → (a : PairPlan) → middle-of f p a ≡ middle-of g p a
   unfolding middle-of
-  middle-same p h nothing = refl
-  middle-same p h (alone s) = refl
-  middle-same p h (across bound) = h bound
+  middle-same p h skip = refl
+  middle-same p h (same-edge s) = refl
+  middle-same p h (by-search bound) = h bound
 
   turn-same : (stop : Bool) (p : Pair) → ((bound : Float) → f (p .start .road .target) (p .end .road .source) bound ≡ g (p .start .road .target) (p .end .road .source) bound)
       → (so-far : Option Scored) → end-or-try stop b f so-far p ≡ end-or-try stop b g so-far p
   unfolding end-or-try try-pair
   turn-same true p h so-far = refl
-  turn-same false p h so-far = let a = asked b p in ap (settled b p so-far a) (middle-same p h a)
+  turn-same false p h so-far = let a = pair-plan b p in ap (after-pair b p so-far a) (middle-same p h a)
 
   pairs-same : (ps : List Pair) → ((p : Pair) → In p ps → (bound : Float) → f (p .start .road .target) (p .end .road .source) bound ≡ g (p .start .road .target) (p .end .road .source) bound)
       → (so-far : Option Scored) → try-pairs b f ps so-far ≡ try-pairs b g ps so-far
@@ -93,29 +93,29 @@ Proper t leg = (goal : ℕ) (bound : Float) → Ways (query-of (view t) leg goal
 
 pub legs-proper : (t : Sheet) → Formed t → (leg : Leg) → In leg (view t .legs) → Proper t leg
 unfolding view
-legs-proper t wf leg m = let k = Memᴰ·of-map (leg-of t) (leg-stops t) m in subst (Proper t) (k .2) (leg-ways t wf (k .0))
+legs-proper t wf leg m = let k = Memᴰ·of-map (leg-of t) (leg-starts t) m in subst (Proper t) (k .2) (leg-ways t wf (k .0))
 
-pub candidates-on-roads : (t : Sheet) → Formed t → (ys : List Candidate) → In ys (map (find-candidates (view t .settings)) (view t .places)) → OnRoads t ys
+pub candidates-on-roads : (t : Sheet) → Formed t → (ys : List Candidate) → In ys (map (find-candidates (view t .settings)) (view t .points)) → OnRoads t ys
 unfolding view
 candidates-on-roads t wf ys m =
-    let k = Memᴰ·of-map (find-candidates (t .settings)) (map (place-of t) (t .stops)) m in
-    let j = Memᴰ·of-map (place-of t) (t .stops) (k .1) in
+    let k = Memᴰ·of-map (find-candidates (t .settings)) (map (projected-point t) (t .points)) m in
+    let j = Memᴰ·of-map (projected-point t) (t .points) (k .1) in
     subst (OnRoads t) (ap (find-candidates (t .settings)) (j .2) ∙ k .2) (found-on-roads wf (j .0) (j .1))
 
 -- ---- two searches that agree wherever that decode can ask
 
-module _ (t : Sheet) (wf : Formed t) (f g : Searcher) (same : (q : Query) (start : ℕ) → Ways q → q .nodes ≡ t .nodes → start < t .nodes → f q start ≡ g q start) where
-  seek-same : (leg : Leg) → Proper t leg → (start goal : ℕ) (bound : Float) → start < t .nodes → seek-of (view t) f leg start goal bound ≡ seek-of (view t) g leg start goal bound
-  unfolding seek-of query-of view
-  seek-same leg ways start goal bound h = ap (λ (x : Found). cond (eqb start goal) (found f0 []) x) (same (query-of (view t) leg goal bound) start (ways goal bound) refl h)
+module _ (t : Sheet) (wf : Formed t) (f g : Search) (same : (q : Query) (start : ℕ) → Ways q → q .nodes ≡ t .nodes → start < t .nodes → f q start ≡ g q start) where
+  middle-search-same : (leg : Leg) → Proper t leg → (start goal : ℕ) (bound : Float) → start < t .nodes → middle-search (view t) f leg start goal bound ≡ middle-search (view t) g leg start goal bound
+  unfolding middle-search query-of view
+  middle-search-same leg ways start goal bound h = ap (λ (x : SearchEnd). cond (eqb start goal) (found f0 []) x) (same (query-of (view t) leg goal bound) start (ways goal bound) refl h)
 
   path-same : (leg : Leg) → Proper t leg → (xs ys : List Candidate) → OnRoads t xs
-      → find-best-path (leg .limits) (seek-of (view t) f leg) xs ys ≡ find-best-path (leg .limits) (seek-of (view t) g leg) xs ys
-  path-same leg ways xs ys on = best-path-same (leg .limits) (seek-of (view t) f leg) (seek-of (view t) g leg) xs ys
-      (λ x y m k bound. seek-same leg ways (x .road .target) (y .road .source) bound (wf .roads (x .road) (on x m) .target))
+      → find-best-path (leg .limits) (middle-search (view t) f leg) xs ys ≡ find-best-path (leg .limits) (middle-search (view t) g leg) xs ys
+  path-same leg ways xs ys on = best-path-same (leg .limits) (middle-search (view t) f leg) (middle-search (view t) g leg) xs ys
+      (λ x y m k bound. middle-search-same leg ways (x .road .target) (y .road .source) bound (wf .roads (x .road) (on x m) .target))
 
   line-same : (legs : List Leg) → ((leg : Leg) → In leg legs → Proper t leg) → (rest : List (List Candidate)) → ((ys : List Candidate) → In ys rest → OnRoads t ys)
-      → (i : ℕ) (k : Course) (xs : List Candidate) → OnRoads t xs → decode-line (view t) f i k xs legs rest ≡ decode-line (view t) g i k xs legs rest
+      → (i : ℕ) (k : FullPath) (xs : List Candidate) → OnRoads t xs → decode-line (view t) f i k xs legs rest ≡ decode-line (view t) g i k xs legs rest
   unfolding decode-line
   line-same [] ways rest on i k xs h = refl
   line-same (leg ∷ legs) ways [] on i k xs h = refl
@@ -128,7 +128,7 @@ module _ (t : Sheet) (wf : Formed t) (f g : Searcher) (same : (q : Query) (start
   unfolding decode-point-along-line
   point-same [] ways rest xs h = refl
   point-same (leg ∷ legs) ways [] xs h = refl
-  point-same (leg ∷ legs) ways (ys ∷ rest) xs h = ap (λ (x : Sought). after-leg 0 x (λ r. with-primary 2 (course-of leg r))) (path-same leg (ways leg here) xs ys h)
+  point-same (leg ∷ legs) ways (ys ∷ rest) xs h = ap (λ (x : LegEnd). after-leg 0 x (λ r. with-primary 2 (path-of-leg leg r))) (path-same leg (ways leg here) xs ys h)
 
   legs-same : (cs : List (List Candidate)) → ((ys : List Candidate) → In ys cs → OnRoads t ys) → decode-legs (view t) f cs ≡ decode-legs (view t) g cs
   unfolding decode-legs
@@ -137,7 +137,7 @@ module _ (t : Sheet) (wf : Formed t) (f g : Searcher) (same : (q : Query) (start
       let legs = view t .legs in
       let proper = legs-proper t wf in
       λ i. cond (eqb (view t .kind) point-along-line) (point-same legs proper rest xs (on xs here) i)
-      (line-same legs proper rest (λ ys m. on ys (List·Memᴰ·tail m)) 0 no-course xs (on xs here) i)
+      (line-same legs proper rest (λ ys m. on ys (List·Memᴰ·tail m)) 0 no-path-yet xs (on xs here) i)
 
   points-same : (cs : List (List Candidate)) → ((ys : List Candidate) → In ys cs → OnRoads t ys) → decode-points (view t) f cs ≡ decode-points (view t) g cs
   unfolding decode-points require-close-candidate
@@ -150,7 +150,7 @@ module _ (t : Sheet) (wf : Formed t) (f g : Searcher) (same : (q : Query) (start
   pub outcome-same : outcome (view t) f ≡ outcome (view t) g
   unfolding outcome
   outcome-same = ap (λ (x : Outcome). cond (ltb point-along-line (view t .kind)) (refused 7 (view t .kind) 0) x)
-      (points-same (map (find-candidates (view t .settings)) (view t .places)) (candidates-on-roads t wf))
+      (points-same (map (find-candidates (view t .settings)) (view t .points)) (candidates-on-roads t wf))
 
 -- ---- the whole call
 
@@ -163,14 +163,14 @@ outcome-enough t wf slots steps turns one h k = outcome-same t wf (search-within
 -- nor what a parsed sheet is answered: without room nothing is searched
 sheet-enough : (t : Sheet) → Formed t → (lent : Lent) (steps turns : ℕ) → t .nodes - 1 ≤ steps → lent .heap ≤ turns → decode-by (search-within steps turns (lent .heap)) t lent ≡ decode-sheet t lent
 unfolding decode-by decode-sheet
-sheet-enough t wf lent steps turns h k = go (roomy (length (t .stops)) (t .nodes) lent) refl
+sheet-enough t wf lent steps turns h k = go (has-room (length (t .points)) (t .nodes) lent) refl
   where
     l : Lists
     l = lent .lists
 
-    go : (b : Bool) → roomy (length (t .stops)) (t .nodes) lent ≡ b
+    go : (b : Bool) → has-room (length (t .points)) (t .nodes) lent ≡ b
         → cond b (answered t l (outcome (view t) (search-within steps turns (lent .heap)))) (untouched 6 0 l) ≡ cond b (answered t l (outcome (view t) (bounded-astar (lent .heap)))) (untouched 6 0 l)
-    go true e = ap (answered t l) (outcome-enough t wf (lent .heap) steps turns (roomy-facts (length (t .stops)) (t .nodes) lent e .heap) h k)
+    go true e = ap (answered t l) (outcome-enough t wf (lent .heap) steps turns (room-facts (length (t .points)) (t .nodes) lent e .heap) h k)
     go false e = refl
 
 pub fuel-theorem : FuelTheorem

@@ -9,9 +9,9 @@ use lib.Dec.{T}
 use lib.ListN.{take}
 use Rattle.model.specs.declared.Settings.{Settings}
 use Rattle.model.specs.declared.Road.{Road}
-use Rattle.model.specs.Lists.{In, when, collect, sort}
-use Rattle.model.specs.Sheet.{Stop, Sheet, road-at, no-road, list-at, leaving-roads}
-use Rattle.model.specs.View.{Spot, Place, spot-of, place-of}
+use Rattle.model.specs.Lists.{In, when, filter-map, sort}
+use Rattle.model.specs.Sheet.{MeasuredPoint, Sheet, road-at, no-road, list-at, leaving-roads}
+use Rattle.model.specs.View.{Projection, ProjectedPoint, projection-of, projected-point}
 use Rattle.model.specs.Candidates.{Candidate, candidate-of, passes, candidate, better, find-candidates}
 use Rattle.model.specs.Legs.{Pair, pair, pairs, leg-pairs}
 use Rattle.model.proofs.Members.{here, in-getD, in-take, in-sort, in-collect}
@@ -25,25 +25,25 @@ unfolding when
 when-some true x y e = (tt, Option·some-injective x y e)
 when-some false x y e = absurd (Option·none-ne-some y e)
 
-pub candidate-spot : (c : Settings) (p : Place) (x : Candidate) → In x (find-candidates c p) → (s : Spot) × In s (p .spots) × (candidate-of c (p .point) s ≡ x) × T (passes c x)
+pub candidate-projection : (c : Settings) (p : ProjectedPoint) (x : Candidate) → In x (find-candidates c p) → (s : Projection) × In s (p .projections) × (candidate-of c (p .point) s ≡ x) × T (passes c x)
 unfolding find-candidates candidate
-candidate-spot c p x m =
-    let made = collect (candidate c (p .point)) (p .spots) in
-    let k = in-collect (candidate c (p .point)) (p .spots) (in-sort better made (in-take (c .«max_candidates») (sort better made) m)) in
+candidate-projection c p x m =
+    let made = filter-map (candidate c (p .point)) (p .projections) in
+    let k = in-collect (candidate c (p .point)) (p .projections) (in-sort better made (in-take (c .«max_candidates») (sort better made) m)) in
     let y = candidate-of c (p .point) (k .0) in
     let w = when-some (passes c y) y x (k .2) in
     (k .0, k .1, w .1, subst (λ (z : Candidate). T (passes c z)) (w .1) (w .0))
 
--- a candidate lies on the road of its spot
-pub candidate-road : (c : Settings) (p : Place) (s : Spot) (x : Candidate) → candidate-of c (p .point) s ≡ x → s .road ≡ x .road
+-- a candidate lies on the road of its projection
+pub candidate-road : (c : Settings) (p : ProjectedPoint) (s : Projection) (x : Candidate) → candidate-of c (p .point) s ≡ x → s .road ≡ x .road
 unfolding candidate-of
 candidate-road c p s x e = ap (λ (z : Candidate). z .road) e
 
-pub found-on-roads : {t : Sheet} → Formed t → (p : Stop) → In p (t .stops) → (c : Candidate) → In c (find-candidates (t .settings) (place-of t p)) → In (c .road) (t .roads)
+pub found-on-roads : {t : Sheet} → Formed t → (p : MeasuredPoint) → In p (t .points) → (c : Candidate) → In c (find-candidates (t .settings) (projected-point t p)) → In (c .road) (t .roads)
 found-on-roads {t} f p m c k =
-    let s = candidate-spot (t .settings) (place-of t p) c k in
-    let w = Memᴰ·of-map (spot-of t) (p .rows) (s .1) in
-    subst (λ (r : Road). In r (t .roads)) (ap (λ (x : Spot). x .road) (w .2) ∙ candidate-road (t .settings) (place-of t p) (s .0) c (s .2))
+    let s = candidate-projection (t .settings) (projected-point t p) c k in
+    let w = Memᴰ·of-map (projection-of t) (p .rows) (s .1) in
+    subst (λ (r : Road). In r (t .roads)) (ap (λ (x : Projection). x .road) (w .2) ∙ candidate-road (t .settings) (projected-point t p) (s .0) c (s .2))
     (in-getD (t .roads) (w .0 .road) no-road (f .rows p m (w .0) (w .1) .road))
 
 -- ---- pairs

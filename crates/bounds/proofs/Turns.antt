@@ -12,7 +12,7 @@ use Rattle.model.specs.declared.Road.{Road}
 use Rattle.model.specs.Numbers.{_⊕_, _<ᶠ_}
 use Rattle.model.specs.Lists.{In, when, maybe}
 use Rattle.model.specs.Heap.{push, pop}
-use Rattle.model.specs.Search.{Query, Found, found, none-found, full, Label, Entry, State, label-at, entry-at, key-of, real-of, dominated, stale, offered, entered, relax, relax-all, trace, Step, stop, more, expanded, visit, take-step, onward, run}
+use Rattle.model.specs.Search.{Query, SearchEnd, found, none-found, full, Label, Entry, State, label-at, entry-at, f-score-of, real-of, dominated, stale, offered, entered, relax, relax-all, trace, Step, stop, more, expanded, visit, take-step, onward, run}
 use Rattle.model.proofs.Members.{here}
 use Rattle.bounds.proofs.Choices.{same-or-other, below-or-not}
 use Rattle.bounds.proofs.HeapLaws.{length-push, length-pop}
@@ -21,18 +21,18 @@ use Rattle.bounds.proofs.HeapLaws.{length-push, length-pop}
 
 -- the label that r would give its target, whether it is refused, and the state with a label l at v and its entry
 abbrev pub offer : Query → Entry → List (Option Label) → Road → Label
-offer q e ls r = record { real = real-of (label-at ls (e .node)) ⊕ r .metres; penalised = e .cost ⊕ r .metres ⊕ q .penalty r; came-from = some r }
+offer q e ls r = record { real = real-of (label-at ls (e .node)) ⊕ r .«length_m»; penalised = e .g-score ⊕ r .«length_m» ⊕ q .penalty r; came-from = some r }
 
 abbrev pub refused : Query → Entry → List (Option Label) → Road → Bool
-refused q e ls r = q .bound <ᶠ offer q e ls r .real || dominated (label-at ls (r .target)) (offer q e ls r .penalised)
+refused q e ls r = q .max-cost <ᶠ offer q e ls r .real || dominated (label-at ls (r .target)) (offer q e ls r .penalised)
 
-abbrev pub entry-of : Query → ℕ → Label → Entry
-entry-of q v l = record { key = l .penalised ⊕ q .ahead v; cost = l .penalised; node = v }
+abbrev pub entry-for : Query → ℕ → Label → Entry
+entry-for q v l = record { f-score = l .penalised ⊕ q .heuristic v; g-score = l .penalised; node = v }
 
 abbrev pub with-label : Query → State → ℕ → Label → State
 with-label q st v l =
-    let made = st .made ++ entry-of q v l ∷ [] in
-    record { labels = set (st .labels) v (some l); made = made; heap = push (key-of made) (st .heap) (length (st .made)) }
+    let made = st .made ++ entry-for q v l ∷ [] in
+    record { labels = set (st .labels) v (some l); made = made; heap = push (f-score-of made) (st .heap) (length (st .made)) }
 
 module _ (slots : ℕ) (q : Query) (st : State) (v : ℕ) (l : Label) where
   pub entered-some : length (st .made) < slots → entered slots q st v l ≡ some (with-label q st v l)
@@ -97,15 +97,15 @@ module _ (Inv : State → Type 0) (slots : ℕ) (q : Query) (e : Entry) where
 
 -- without the entry that the turn takes
 abbrev pub popped : State → State
-popped st = record { labels = st .labels; made = st .made; heap = pop (key-of (st .made)) (st .heap) }
+popped st = record { labels = st .labels; made = st .made; heap = pop (f-score-of (st .made)) (st .heap) }
 
 -- what holds of the answer or of the next state
-abbrev pub StepsTo : (State → Type 0) → (Found → Type 0) → Step → Type 0
+abbrev pub StepsTo : (State → Type 0) → (SearchEnd → Type 0) → Step → Type 0
 StepsTo Inv Good (stop f) = Good f
 StepsTo Inv Good (more st) = Inv st
 
 -- what is found at the goal
-abbrev pub arrived : ℕ → Query → State → Found
+abbrev pub arrived : ℕ → Query → State → SearchEnd
 arrived steps q st = found (real-of (label-at (st .labels) (q .goal))) (trace steps (st .labels) (q .goal) [])
 
 module _ (steps slots : ℕ) (q : Query) (e : Entry) (st : State) where
@@ -113,20 +113,20 @@ module _ (steps slots : ℕ) (q : Query) (e : Entry) (st : State) where
   unfolding visit
   visit-arrived h = rw (eq-eqb (e .node) (q .goal) h)
 
-  pub visit-stale : e .node ≢ q .goal → stale (label-at (st .labels) (e .node)) (e .cost) ≡ true → visit steps slots q e st ≡ more st
+  pub visit-stale : e .node ≢ q .goal → stale (label-at (st .labels) (e .node)) (e .g-score) ≡ true → visit steps slots q e st ≡ more st
   unfolding visit
   visit-stale h k = rw (ne-eqb (e .node) (q .goal) h, k)
 
-  pub visit-opened : e .node ≢ q .goal → stale (label-at (st .labels) (e .node)) (e .cost) ≡ false → visit steps slots q e st ≡ expanded (relax-all slots q e (q .leaving (e .node)) st)
+  pub visit-opened : e .node ≢ q .goal → stale (label-at (st .labels) (e .node)) (e .g-score) ≡ false → visit steps slots q e st ≡ expanded (relax-all slots q e (q .leaving (e .node)) st)
   unfolding visit
   visit-opened h k = rw (ne-eqb (e .node) (q .goal) h, k)
 
   -- what holds of each outcome holds of `visit`
-  pub visit-by : (P : Step → Type 0) → (e .node ≡ q .goal → P (stop (arrived steps q st))) → (e .node ≢ q .goal → stale (label-at (st .labels) (e .node)) (e .cost) ≡ true → P (more st))
-      → (e .node ≢ q .goal → stale (label-at (st .labels) (e .node)) (e .cost) ≡ false → P (expanded (relax-all slots q e (q .leaving (e .node)) st))) → P (visit steps slots q e st)
-  visit-by P there old opened = go (same-or-other (e .node) (q .goal)) (stale (label-at (st .labels) (e .node)) (e .cost)) refl
+  pub visit-by : (P : Step → Type 0) → (e .node ≡ q .goal → P (stop (arrived steps q st))) → (e .node ≢ q .goal → stale (label-at (st .labels) (e .node)) (e .g-score) ≡ true → P (more st))
+      → (e .node ≢ q .goal → stale (label-at (st .labels) (e .node)) (e .g-score) ≡ false → P (expanded (relax-all slots q e (q .leaving (e .node)) st))) → P (visit steps slots q e st)
+  visit-by P there old opened = go (same-or-other (e .node) (q .goal)) (stale (label-at (st .labels) (e .node)) (e .g-score)) refl
     where
-      go : (e .node ≡ q .goal) ⊎ (e .node ≢ q .goal) → (b : Bool) → stale (label-at (st .labels) (e .node)) (e .cost) ≡ b → P (visit steps slots q e st)
+      go : (e .node ≡ q .goal) ⊎ (e .node ≢ q .goal) → (b : Bool) → stale (label-at (st .labels) (e .node)) (e .g-score) ≡ b → P (visit steps slots q e st)
       go (inl h) b k = rw (visit-arrived h) (there h)
       go (inr h) true k = rw (visit-stale h k) (old h k)
       go (inr h) false k = rw (visit-opened h k) (opened h k)
@@ -142,7 +142,7 @@ module _ (steps slots : ℕ) (q : Query) where
       go (top ∷ rest) taken = taken top rest refl
 
 -- Good holds where e is at the goal, and With, from which Inv follows, of every state while the roads of e are tried.
-pub visit-keeps : (steps slots : ℕ) (q : Query) (Inv : State → Type 0) (Good : Found → Type 0) (With : State → Type 0) (e : Entry) → ((st : State) → With st → Inv st) → Good full
+pub visit-keeps : (steps slots : ℕ) (q : Query) (Inv : State → Type 0) (Good : SearchEnd → Type 0) (With : State → Type 0) (e : Entry) → ((st : State) → With st → Inv st) → Good full
     → ((r : Road) → In r (q .leaving (e .node)) → (st : State) → With st → Kept With (relax slots q e st r)) → (st : State) → (e .node ≡ q .goal → Good (arrived steps q st)) → With st
     → StepsTo Inv Good (visit steps slots q e st)
 unfolding expanded
@@ -155,18 +155,18 @@ visit-keeps steps slots q Inv Good With e weaken none-left road st there w =
     go (some s) k = weaken s k
 
 -- after a step that keeps Inv: what holds of the rest holds of the whole, and equal rests make equal wholes
-onward-keeps : (Inv : State → Type 0) (Good : Found → Type 0) (s : Step) (again : State → Found) → StepsTo Inv Good s → ((st : State) → Inv st → Good (again st)) → Good (onward s again)
+onward-keeps : (Inv : State → Type 0) (Good : SearchEnd → Type 0) (s : Step) (next : State → SearchEnd) → StepsTo Inv Good s → ((st : State) → Inv st → Good (next st)) → Good (onward s next)
 unfolding onward
-onward-keeps Inv Good (stop f) again k h = k
-onward-keeps Inv Good (more st) again k h = h st k
+onward-keeps Inv Good (stop f) next k h = k
+onward-keeps Inv Good (more st) next k h = h st k
 
-pub onward-same : (Inv : State → Type 0) (Good : Found → Type 0) (s : Step) (f g : State → Found) → StepsTo Inv Good s → ((st : State) → Inv st → f st ≡ g st) → onward s f ≡ onward s g
+pub onward-same : (Inv : State → Type 0) (Good : SearchEnd → Type 0) (s : Step) (f g : State → SearchEnd) → StepsTo Inv Good s → ((st : State) → Inv st → f st ≡ g st) → onward s f ≡ onward s g
 unfolding onward
 onward-same Inv Good (stop x) f g k h = refl
 onward-same Inv Good (more st) f g k h = h st k
 
 -- what every turn keeps, the search keeps
-pub run-keeps : (steps slots : ℕ) (q : Query) (Inv : State → Type 0) (Good : Found → Type 0) → Good none-found → ((st : State) → Inv st → StepsTo Inv Good (take-step steps slots q (st .heap) st)) → (k : ℕ) (st : State) → Inv st → Good (run steps k slots q st)
+pub run-keeps : (steps slots : ℕ) (q : Query) (Inv : State → Type 0) (Good : SearchEnd → Type 0) → Good none-found → ((st : State) → Inv st → StepsTo Inv Good (take-step steps slots q (st .heap) st)) → (k : ℕ) (st : State) → Inv st → Good (run steps k slots q st)
 unfolding run
 run-keeps steps slots q Inv Good g turn zero st i = g
 run-keeps steps slots q Inv Good g turn (suc k) st i = onward-keeps Inv Good (take-step steps slots q (st .heap) st) (run steps k slots q) (turn st i) (run-keeps steps slots q Inv Good g turn k)
@@ -188,7 +188,7 @@ module _ (i j slots : ℕ) (q : Query) where
       go (top ∷ rest) same = same top rest refl
 
   -- searches whose turns are the same are the same
-  pub run-same : (Inv : State → Type 0) (Good : Found → Type 0) → ((st : State) → Inv st → take-step i slots q (st .heap) st ≡ take-step j slots q (st .heap) st) → ((st : State) → Inv st → StepsTo Inv Good (take-step j slots q (st .heap) st)) → (k : ℕ) (st : State) → Inv st → run i k slots q st ≡ run j k slots q st
+  pub run-same : (Inv : State → Type 0) (Good : SearchEnd → Type 0) → ((st : State) → Inv st → take-step i slots q (st .heap) st ≡ take-step j slots q (st .heap) st) → ((st : State) → Inv st → StepsTo Inv Good (take-step j slots q (st .heap) st)) → (k : ℕ) (st : State) → Inv st → run i k slots q st ≡ run j k slots q st
   unfolding run
   run-same Inv Good same turn zero st v = refl
   run-same Inv Good same turn (suc k) st v =
@@ -206,13 +206,13 @@ module _ (slots : ℕ) (q : Query) where
   abbrev Within : ℕ → State → Type 0
   Within n st = room slots st ≤ n
 
-  abbrev Any : Found → Type 0
+  abbrev Any : SearchEnd → Type 0
   Any f = Unit {0}
 
   relax-room : (n : ℕ) (e : Entry) (r : Road) (st : State) → Within n st → Kept (Within n) (relax slots q e st r)
   relax-room n e r st h =
       relax-by slots q e st r (Kept (Within n)) (λ k. h)
-      (λ k l. let x = entry-of q (r .target) (offer q e (st .labels) r) in omega (arith, length-push (key-of (st .made ++ x ∷ [])) (st .heap) (length (st .made)), length-append (st .made) (x ∷ [])))
+      (λ k l. let x = entry-for q (r .target) (offer q e (st .labels) r) in omega (arith, length-push (f-score-of (st .made ++ x ∷ [])) (st .heap) (length (st .made)), length-append (st .made) (x ∷ [])))
       (λ k l. tt)
 
   visit-room : (n steps : ℕ) (e : Entry) (st : State) → Within n st → StepsTo (Within n) Any (visit steps slots q e st)
@@ -222,7 +222,7 @@ module _ (slots : ℕ) (q : Query) where
   take-step-room : (n steps : ℕ) (st : State) → Within (suc n) st → StepsTo (Within n) Any (take-step steps slots q (st .heap) st)
   take-step-room n steps st h =
       take-step-by steps slots q (StepsTo (Within n) Any) st tt
-      (λ top rest e. visit-room n steps (entry-at (st .made) top) (popped st) (omega (arith, length-pop (key-of (st .made)) (st .heap), ap length e)))
+      (λ top rest e. visit-room n steps (entry-at (st .made) top) (popped st) (omega (arith, length-pop (f-score-of (st .made)) (st .heap), ap length e)))
 
   -- turns that reach are enough
   pub run-enough : (steps n k : ℕ) (st : State) → room slots st ≤ n → n ≤ k → run steps k slots q st ≡ run steps n slots q st

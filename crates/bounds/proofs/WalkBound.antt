@@ -14,9 +14,9 @@ use lib.Ieee.Fits.{and-l, eq→eqb}
 use lib.Ieee.Bits.{is-true}
 use borrow.Author.Tests.{eq-eqb}
 use Rattle.model.specs.Numbers.{_<ᶠ_}
-use Rattle.model.specs.Lists.{In, keep, first, maybe}
+use Rattle.model.specs.Lists.{In, filter, find, maybe}
 use Rattle.model.specs.Sheet.{Sheet, road-at, numbers, list-at}
-use Rattle.model.specs.Ends.{is-valid-node, way-on, way-back, forced-continuation, forced-predecessor, way, Walk, fresh, with-road, meets, walked, walk, extension}
+use Rattle.model.specs.Ends.{is-valid-node, way-on, way-back, forced-continuation, forced-predecessor, way, Walk, no-walk, with-road, meets, walked, walk, extension}
 use Rattle.model.proofs.Members.{in-getD, any-of, keep-in, first-in, in-tab, tab-in}
 use Rattle.bounds.specs.Amounts.{Amount}
 use Rattle.bounds.specs.Formed.{Formed}
@@ -50,7 +50,7 @@ module _ (t : Sheet) where
 
   -- the roads out of a node, or into it
   abbrev touching : Bool → ℕ → List ℕ
-  touching forward v = cond forward (keep (leaves t v) (numbers t)) (keep (arrives t v) (numbers t))
+  touching forward v = cond forward (filter (leaves t v) (numbers t)) (filter (arrives t v) (numbers t))
 
   abbrev forced : Bool → ℕ → List ℕ
   forced forward v = cond (is-valid-node t v) [] (touching forward v)
@@ -94,7 +94,7 @@ module _ (t : Sheet) where
     unfolding forced-continuation way-on
     on-forced y x h =
         let v = road-at t y .target in
-        let p = passed (is-valid-node t v) (first (λ z. not (eqb (road-at t z .target) (road-at t y .source))) (list-at t v)) x h in
+        let p = passed (is-valid-node t v) (find (λ z. not (eqb (road-at t z .target) (road-at t y .source))) (list-at t v)) x h in
         let m = first-in (λ z. not (eqb (road-at t z .target) (road-at t y .source))) (list-at t v) x (p .1) .0 in
         let l = f .lists v x m in
         record { below = l .0; among = all-forced-in true v x (listed-node v x m) (p .0) (keep-in (leaves t v) (numbers t) (is-number x (l .0)) (eq-eqb (road-at t x .source) v (l .1))) }
@@ -104,7 +104,7 @@ module _ (t : Sheet) where
     back-forced y x h =
         let v = road-at t y .source in
         let test : ℕ → Bool = λ z. eqb (road-at t z .target) v && not (eqb (road-at t z .source) (road-at t y .target)) in
-        let p = passed (is-valid-node t v) (first test (numbers t)) x h in
+        let p = passed (is-valid-node t v) (find test (numbers t)) x h in
         let m = first-in test (numbers t) x (p .1) in
         let k = in-tab (length (t .roads)) 0 (λ r. r) (m .0) in
         let l : x < length (t .roads) = omega (arith, k .1, k .2) in
@@ -123,10 +123,10 @@ module _ (t : Sheet) where
     pub record Trail (forward : Bool) (w : Walk) : Type 0 where
       pub distinct : Distinct (w .added)
       pub forced : (z : ℕ) → In z (w .added) → Forced forward z
-      pub metres : Amount (w .metres)
+      pub added-m : Amount (w .added-m)
 
-    pub fresh-trail : (forward : Bool) → Trail forward fresh
-    fresh-trail forward = record { distinct = tt; forced = λ z m. absurd (List·Memᴰ·not-nil m); metres = zero-amount }
+    pub no-walk-trail : (forward : Bool) → Trail forward no-walk
+    no-walk-trail forward = record { distinct = tt; forced = λ z m. absurd (List·Memᴰ·not-nil m); added-m = zero-amount }
 
     trail-road : (forward : Bool) (path : List ℕ) (r x : ℕ) (w : Walk) → Trail forward w → way t forward r ≡ some x → meets x (path ++ w .added) ≡ false → Trail forward (with-road t x w)
     trail-road forward path r x w k e h =
@@ -134,7 +134,7 @@ module _ (t : Sheet) where
         record {
           distinct = distinct-snoc (w .added) x (k .distinct) (unmet x path (w .added) h);
           forced = λ z m. elim (List·Memᴰ·append-cases (w .added) m) [ inl j ↦ k .forced z j | inr j ↦ subst (Forced forward) (sym (List·Memᴰ·eq-of-singleton j)) g ];
-          metres = add-amount (w .metres) (road-at t x .metres) (k .metres) (finite-amount (road-at t x .metres) (f .roads (road-at t x) (in-getD (t .roads) x _ (g .below)) .metres));
+          added-m = add-amount (w .added-m) (road-at t x .«length_m») (k .added-m) (finite-amount (road-at t x .«length_m») (f .roads (road-at t x) (in-getD (t .roads) x _ (g .below)) .«length_m»));
         }
 
     -- distinct numbers among at most 2 N
@@ -144,7 +144,7 @@ module _ (t : Sheet) where
     module _ (forward : Bool) (cap : Float) (path : List ℕ) where
       -- one turn of a walk, with the rest of it
       abbrev turn : (ℕ → Walk → Option Walk) → Walk → ℕ → Option Walk
-      turn rest w x = cond (meets x (path ++ w .added)) none (cond (cap <ᶠ with-road t x w .metres) none (rest x (with-road t x w)))
+      turn rest w x = cond (meets x (path ++ w .added)) none (cond (cap <ᶠ with-road t x w .added-m) none (rest x (with-road t x w)))
 
       -- what a walk gives is such a trail
       walk-trail : (k r : ℕ) (w u : Walk) → Trail forward w → walk k t forward cap path r w ≡ some u → Trail forward u
@@ -155,7 +155,7 @@ module _ (t : Sheet) where
           go : (o : Option ℕ) → way t forward r ≡ o → maybe o (walked w) (turn (walk k t forward cap path) w) ≡ some u
               → ((x : ℕ) (v : Walk) → Trail forward v → walk k t forward cap path x v ≡ some u → Trail forward u) → Trail forward u
           go none e h ih = subst (Trail forward) (walked-is w u h) p
-          go (some x) e h ih = on (meets x (path ++ w .added)) refl (cap <ᶠ with-road t x w .metres) h
+          go (some x) e h ih = on (meets x (path ++ w .added)) refl (cap <ᶠ with-road t x w .added-m) h
             where
               on : (b : Bool) → meets x (path ++ w .added) ≡ b → (c : Bool) → cond b none (cond c none (walk k t forward cap path x (with-road t x w))) ≡ some u → Trail forward u
               on true g c h = absurd (Option·none-ne-some u h)
@@ -174,7 +174,7 @@ module _ (t : Sheet) where
               → ((x : ℕ) (v : Walk) → Trail forward v → 2 * t .nodes < length (v .added) + i → 2 * t .nodes < length (v .added) + j → walk i t forward cap path x v ≡ walk j t forward cap path x v)
               → maybe o (walked w) (turn (walk i t forward cap path) w) ≡ maybe o (walked w) (turn (walk j t forward cap path) w)
           go none e ih = refl
-          go (some x) e ih = on (meets x (path ++ w .added)) refl (cap <ᶠ with-road t x w .metres)
+          go (some x) e ih = on (meets x (path ++ w .added)) refl (cap <ᶠ with-road t x w .added-m)
             where
               on : (b : Bool) → meets x (path ++ w .added) ≡ b → (c : Bool)
                   → cond b none (cond c none (walk i t forward cap path x (with-road t x w))) ≡ cond b none (cond c none (walk j t forward cap path x (with-road t x w)))
@@ -183,13 +183,13 @@ module _ (t : Sheet) where
               on false g false = ih x (with-road t x w) (trail-road forward path r x w p e g) (omega (arith, length-append (w .added) (x ∷ []))) (omega (arith, length-append (w .added) (x ∷ [])))
 
       pub extension-trail : (r : ℕ) (w : Walk) → extension t forward cap path r ≡ some w → Trail forward w
-      extension-trail r w h = walk-trail (suc (2 * t .nodes)) r fresh w (fresh-trail forward) h
+      extension-trail r w h = walk-trail (suc (2 * t .nodes)) r no-walk w (no-walk-trail forward) h
 
 -- the theorem of specs/Theorems.antt
 pub walk-theorem : (t : Sheet) → Formed t → WalkTheorem t
 walk-theorem t f forward cap path r = record {
   few = λ w h. trail-few t f forward w (extension-trail t f forward cap path r w h);
   distinct = λ w h. extension-trail t f forward cap path r w h .distinct;
-  metres = λ w h. extension-trail t f forward cap path r w h .metres;
-  enough = λ turns h. walk-enough t f forward cap path turns (suc (2 * t .nodes)) r fresh (fresh-trail t f forward) (omega arith) (omega arith);
+  added-m = λ w h. extension-trail t f forward cap path r w h .added-m;
+  enough = λ turns h. walk-enough t f forward cap path turns (suc (2 * t .nodes)) r no-walk (no-walk-trail t f forward) (omega arith) (omega arith);
 }

@@ -11,7 +11,7 @@ use Rattle.bounds.specs.Amounts.{Finite, Amount}
 pub record WayFacts (q : Query) (v : ℕ) (r : Road) : Type 0 where
   pub source : r .source ≡ v
   pub target : r .target < q .nodes
-  pub metres : Finite (r .metres)
+  pub «length_m» : Finite (r .«length_m»)
 
 pub record Ways (q : Query) : Type 0 where
   pub roads : (v : ℕ) (r : Road) → In r (q .leaving v) → WayFacts q v r

@@ -14,9 +14,9 @@ use Rattle.model.specs.Sheet.{Sheet, parsed}
 use Rattle.model.specs.Search.{Query, found, search-within, bounded-astar}
 use Rattle.model.specs.Judge.{judged}
 use Rattle.model.specs.View.{view}
-use Rattle.model.specs.Legs.{Coverage}
-use Rattle.model.specs.Decode.{Course, outcome, matched}
-use Rattle.model.specs.Ends.{Walk, fresh, walk, extension, finalize-path}
+use Rattle.model.specs.Legs.{EdgeCoverage}
+use Rattle.model.specs.Decode.{FullPath, outcome, matched}
+use Rattle.model.specs.Ends.{Walk, no-walk, walk, extension, finalize-path}
 use Rattle.model.specs.Call.{Lists, Lent, Match, Decoded, most-entries, after-judging, decode-by, decode}
 use Rattle.model.specs.Call as call
 use Rattle.model.specs.declared.Judged.the-variants.{Fine}
@@ -47,8 +47,8 @@ Distinct (x ∷ xs) = ((y : ℕ) → In y xs → y ≢ x) × Distinct xs
 pub record WalkBound (t : Sheet) (forward : Bool) (cap : Float) (path : List ℕ) (r : ℕ) : Type 0 where
   pub few : (w : Walk) → extension t forward cap path r ≡ some w → length (w .added) ≤ 2 * t .nodes
   pub distinct : (w : Walk) → extension t forward cap path r ≡ some w → Distinct (w .added)
-  pub metres : (w : Walk) → extension t forward cap path r ≡ some w → Amount (w .metres)
-  pub enough : (turns : ℕ) → suc (2 * t .nodes) ≤ turns → walk turns t forward cap path r fresh ≡ extension t forward cap path r
+  pub added-m : (w : Walk) → extension t forward cap path r ≡ some w → Amount (w .added-m)
+  pub enough : (turns : ℕ) → suc (2 * t .nodes) ≤ turns → walk turns t forward cap path r no-walk ≡ extension t forward cap path r
 
 abbrev pub WalkTheorem : Sheet → Type 0
 WalkTheorem t = (forward : Bool) (cap : Float) (path : List ℕ) (r : ℕ) → WalkBound t forward cap path r
@@ -64,13 +64,13 @@ abbrev pub FuelTheorem : Type 0
 FuelTheorem = (s : List ℕ) (lent : Lent) (steps turns : ℕ) → counts-of s .n - 1 ≤ steps → lent .heap ≤ turns → decode-within steps turns s lent ≡ decode s lent
 
 -- What the legs write, what they cover, and the path with both ends have at most (P + 4) (N + 1) entries.
-pub record RoomBound (t : Sheet) (k : Course) : Type 0 where
-  pub roads : length (k .roads) ≤ most-entries (length (t .stops)) (t .nodes)
-  pub coverages : length (k .coverages) ≤ most-entries (length (t .stops)) (t .nodes)
-  pub path : length (finalize-path t k .path) ≤ most-entries (length (t .stops)) (t .nodes)
+pub record RoomBound (t : Sheet) (k : FullPath) : Type 0 where
+  pub roads : length (k .roads) ≤ most-entries (length (t .points)) (t .nodes)
+  pub coverages : length (k .coverages) ≤ most-entries (length (t .points)) (t .nodes)
+  pub path : length (finalize-path t k .path) ≤ most-entries (length (t .points)) (t .nodes)
 
 abbrev pub RoomTheorem : Type 0
-RoomTheorem = (s : List ℕ) → judged s ≡ Fine → (slots : ℕ) (k : Course) (c : Coverage)
+RoomTheorem = (s : List ℕ) → judged s ≡ Fine → (slots : ℕ) (k : FullPath) (c : EdgeCoverage)
     → outcome (view (parsed s)) (bounded-astar slots) ≡ matched k c → RoomBound (parsed s) k
 
 -- The answer lists keep their length in every call.
@@ -82,7 +82,7 @@ abbrev pub ListTheorem : Type 0
 ListTheorem = (s : List ℕ) (lent : Lent) → SameLength (lent .lists) (decode s lent .lists)
 
 -- No f64 of an answer is a NaN or -0. An end fraction can be +infinity.
-pub record Numbers (m : Match) (list : List Float) : Type 0 where
+pub record AnswerNumbers (m : Match) (list : List Float) : Type 0 where
   pub length-m : Amount (m .length-m)
   pub start-offset : Amount (m .start-offset)
   pub start-fraction : Amount (m .start-fraction)
@@ -92,7 +92,7 @@ pub record Numbers (m : Match) (list : List Float) : Type 0 where
   pub lengths : (x : Float) → In x list → Finite x
 
 abbrev pub NumberTheorem : Type 0
-NumberTheorem = (s : List ℕ) (lent : Lent) (m : Match) → decode s lent .answer ≡ call.matched m → Numbers m (decode s lent .lists .lengths)
+NumberTheorem = (s : List ℕ) (lent : Lent) (m : Match) → decode s lent .answer ≡ call.matched m → AnswerNumbers m (decode s lent .lists .lengths)
 
 -- ---- all of them
 

@@ -25,10 +25,10 @@ use Rattle.model.proofs.RowSums.{rows-within}
 use Rattle.bounds.proofs.Rank.{rank-le}
 use Rattle.bounds.proofs.Choices.{below-or-not}
 use Rattle.bounds.proofs.Sources.{when-some}
-use Rattle.candidates.specs.Found.{passing-at, candidates-at, no-candidate, OnSheet, by-number, on, no-item, tried, tried-at, at-road, held, Lists}
+use Rattle.candidates.specs.Found.{passing-at, candidates-at, no-candidate, OnSheet, by-number, on, no-item, tried, tried-at, at-road, held, CandidatesOf}
 use Rattle.candidates.specs.declared.candidate.Candidate as code
 use Rattle.candidates.specs.declared.closest.Away.{Away}
-use Rattle.candidates.specs.Near.{away, InOrder}
+use Rattle.candidates.specs.Nearest.{away, InOrder}
 use Rattle.candidates.proofs.Sorted.{Ordered, ordered-take, every-insert, insert-at}
 use Rattle.candidates.proofs.Insertion.{put-at, map-put, put-long, length-insert, take-insert, shed, Put}
 use Rattle.candidates.proofs.Ranked.{ScoreAmount, better-orders, by-score}
@@ -204,7 +204,7 @@ module _ (s : List ℕ) (c : Counts) (i : ℕ) (h : i < c .p) (set : Settings) (
     valued : (k : ℕ) → k < n → ScoreAmount (getD zs k no-candidate)
     valued k l = candidates-facts s c i h ok .0 _ (inside k l)
 
-    stands : Lists (sheet-of s c) c i (record { count = n; items = items })
+    stands : CandidatesOf (sheet-of s c) c i (record { count = n; items = items })
     unfolding held
     stands = record {
       are = ap (map (at-road (sheet-of s c))) are ∙ stand-for (sheet-of s c) c zs (λ x m. candidates-facts s c i h ok .1 x (in-take 10 (candidates-at (sheet-of s c) i) m));
@@ -222,12 +222,12 @@ module _ (s : List ℕ) (c : Counts) (i : ℕ) (h : i < c .p) (set : Settings) (
       };
     }
 
-  pub listed : WellFormed s c → (k n : ℕ) (items : List code.Candidate) → n ≤ length items → k ≡ row-count s i → Front by-number s c i most k n items → Lists (sheet-of s c) c i (record { count = n; items = items })
+  pub listed : WellFormed s c → (k n : ℕ) (items : List code.Candidate) → n ≤ length items → k ≡ row-count s i → Front by-number s c i most k n items → CandidatesOf (sheet-of s c) c i (record { count = n; items = items })
   listed ok k n items room all f =
       let is : best s c i most k ≡ tried-at (sheet-of s c) i = rw all tried-are in
       stands ok n items room (f .count ∙ ap length is) (f .are ∙ ap (map by-number) is)
 
-  pub none-tried : WellFormed s c → most ≡ 0 → (items : List code.Candidate) → Lists (sheet-of s c) c i (record { count = 0; items = items })
+  pub none-tried : WellFormed s c → most ≡ 0 → (items : List code.Candidate) → CandidatesOf (sheet-of s c) c i (record { count = 0; items = items })
   none-tried ok e items =
       let is : tried-at (sheet-of s c) i ≡ [] = rw e at (sym tried-are) in
       stands ok 0 items (omega arith) (sym (ap length is)) (sym (ap (map by-number) is))

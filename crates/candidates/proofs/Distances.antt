@@ -20,7 +20,7 @@ use Rattle.bounds.specs.Amounts.{Finite, Amount, amount}
 use Rattle.bounds.proofs.Rank.{rank, Number, number, to-number, lt-rank}
 use Rattle.bounds.proofs.AmountLaws.{finite-amount}
 use Rattle.bounds.proofs.Sources.{when-some}
-use Rattle.candidates.specs.Near.{Alike}
+use Rattle.candidates.specs.Nearest.{EqualAmounts}
 use Rattle.candidates.proofs.Sorted.{every-insert}
 use Rattle.candidates.proofs.Ranked.{lt-is, eq-is}
 use Rattle.candidates.proofs.SheetFacts.{measured}
@@ -28,10 +28,10 @@ use Rattle.candidates.proofs.Gathered.{placed, sorted, sorted-none, sor
 
 -- ---- equal amounts
 
-pub alike : (a b : Float) → Amount a → Amount b → rank a ≡ rank b → Alike a b
+pub alike : (a b : Float) → Amount a → Amount b → rank a ≡ rank b → EqualAmounts a b
 alike a b p q e = record { left = p; right = q; equal = eq-is a b p q ∙ eq-eqb _ _ e }
 
-pub alike-rank : {a b : Float} → Alike a b → rank a ≡ rank b
+pub alike-rank : {a b : Float} → EqualAmounts a b → rank a ≡ rank b
 alike-rank {a} {b} h = eqb-true _ _ (sym (eq-is a b (h .left) (h .right)) ∙ h .equal)
 
 pub infinity-amount : Amount infinity
@@ -65,41 +65,41 @@ module _ (a b : Float) (p : Amount a) (q : Amount b) where
 -- ---- the least of a list
 
 abbrev pub Distant : Candidate → Type 0
-Distant x = Amount (x .distance)
+Distant x = Amount (x .distance-m)
 
 unfoldable least-from : ℕ → List Candidate → ℕ
 least-from m [] = m
-least-from m (x ∷ xs) = least-from (min m (rank (x .distance))) xs
+least-from m (x ∷ xs) = least-from (min m (rank (x .distance-m))) xs
 
 least-min : (m a : ℕ) (xs : List Candidate) → least-from (min m a) xs ≡ min (least-from m xs) a
 unfolding least-from
 least-min m a [] = refl
 least-min m a (x ∷ xs) =
-    let e : min (min m a) (rank (x .distance)) ≡ min (min m (rank (x .distance))) a = omega arith in
-    ap (λ (n : ℕ). least-from n xs) e ∙ least-min (min m (rank (x .distance))) a xs
+    let e : min (min m a) (rank (x .distance-m)) ≡ min (min m (rank (x .distance-m))) a = omega arith in
+    ap (λ (n : ℕ). least-from n xs) e ∙ least-min (min m (rank (x .distance-m))) a xs
 
-least-insert : (below : Candidate → Candidate → Bool) (m : ℕ) (x : Candidate) (ys : List Candidate) → least-from m (insert below x ys) ≡ min (least-from m ys) (rank (x .distance))
+least-insert : (below : Candidate → Candidate → Bool) (m : ℕ) (x : Candidate) (ys : List Candidate) → least-from m (insert below x ys) ≡ min (least-from m ys) (rank (x .distance-m))
 unfolding least-from insert
 least-insert below m x [] = refl
-least-insert below m x (y ∷ ys) = go (below x y) (least-insert below (min m (rank (y .distance))) x ys)
+least-insert below m x (y ∷ ys) = go (below x y) (least-insert below (min m (rank (y .distance-m))) x ys)
   where
-    go : (b : Bool) → least-from (min m (rank (y .distance))) (insert below x ys) ≡ min (least-from (min m (rank (y .distance))) ys) (rank (x .distance))
-        → least-from m (cond b (x ∷ y ∷ ys) (y ∷ insert below x ys)) ≡ min (least-from (min m (rank (y .distance))) ys) (rank (x .distance))
+    go : (b : Bool) → least-from (min m (rank (y .distance-m))) (insert below x ys) ≡ min (least-from (min m (rank (y .distance-m))) ys) (rank (x .distance-m))
+        → least-from m (cond b (x ∷ y ∷ ys) (y ∷ insert below x ys)) ≡ min (least-from (min m (rank (y .distance-m))) ys) (rank (x .distance-m))
     go true e = least-swap
       where
-        least-swap : least-from (min (min m (rank (x .distance))) (rank (y .distance))) ys ≡ min (least-from (min m (rank (y .distance))) ys) (rank (x .distance))
+        least-swap : least-from (min (min m (rank (x .distance-m))) (rank (y .distance-m))) ys ≡ min (least-from (min m (rank (y .distance-m))) ys) (rank (x .distance-m))
         least-swap =
-            let e : min (min m (rank (x .distance))) (rank (y .distance)) ≡ min (min m (rank (y .distance))) (rank (x .distance)) = omega arith in
-            ap (λ (n : ℕ). least-from n ys) e ∙ least-min (min m (rank (y .distance))) (rank (x .distance)) ys
+            let e : min (min m (rank (x .distance-m))) (rank (y .distance-m)) ≡ min (min m (rank (y .distance-m))) (rank (x .distance-m)) = omega arith in
+            ap (λ (n : ℕ). least-from n ys) e ∙ least-min (min m (rank (y .distance-m))) (rank (x .distance-m)) ys
     go false e = e
 
 fold-both : (b : Float) (xs : List Candidate) → Amount b → Every Distant xs
-    → Amount (fold (λ d x. fmin d (x .distance)) b xs) × (rank (fold (λ d x. fmin d (x .distance)) b xs) ≡ least-from (rank b) xs)
+    → Amount (fold (λ d x. fmin d (x .distance-m)) b xs) × (rank (fold (λ d x. fmin d (x .distance-m)) b xs) ≡ least-from (rank b) xs)
 unfolding fold least-from
 fold-both b [] p ps = (p, refl)
 fold-both b (x ∷ xs) p ps =
-    let one = fmin-both b (x .distance) p (ps x here) in
-    let w = fold-both (fmin b (x .distance)) xs (one .0) (λ z m. ps z (List·Memᴰ·tail m)) in
+    let one = fmin-both b (x .distance-m) p (ps x here) in
+    let w = fold-both (fmin b (x .distance-m)) xs (one .0) (λ z m. ps z (List·Memᴰ·tail m)) in
     (w .0, w .1 ∙ ap (λ (n : ℕ). least-from n xs) (one .1))
 
 pub nearest-amount : (xs : List Candidate) → Every Distant xs → Amount (nearest xs)
@@ -111,8 +111,8 @@ unfolding nearest
 nearest-rank xs ps = fold-both infinity xs infinity-amount ps .1
 
 -- one more, wherever it goes
-insert-rank : (x : Candidate) (ys : List Candidate) → Distant x → Every Distant ys → rank (nearest (insert better x ys)) ≡ min (rank (nearest ys)) (rank (x .distance))
-insert-rank x ys p ps = nearest-rank (insert better x ys) (every-insert better Distant x ys p ps) ∙ least-insert better (rank infinity) x ys ∙ ap (λ (n : ℕ). min n (rank (x .distance))) (sym (nearest-rank ys ps))
+insert-rank : (x : Candidate) (ys : List Candidate) → Distant x → Every Distant ys → rank (nearest (insert better x ys)) ≡ min (rank (nearest ys)) (rank (x .distance-m))
+insert-rank x ys p ps = nearest-rank (insert better x ys) (every-insert better Distant x ys p ps) ∙ least-insert better (rank infinity) x ys ∙ ap (λ (n : ℕ). min n (rank (x .distance-m))) (sym (nearest-rank ys ps))
 
 -- ---- the rows of a point
 
@@ -121,7 +121,7 @@ module _ (s : List ℕ) (c : Counts) (i : ℕ) (h : i < c .p) (ok : WellFormed s
   unfolding row-candidate candidate candidate-of
   row-distant k l x e =
       let is = when-some _ _ x e .1 in
-      subst Distant is (finite-amount _ (measured s c ok i h (rows-before s i + k) (omega (arith, rows-within s c (ok .rows) i h)) .distance))
+      subst Distant is (finite-amount _ (measured s c ok i h (rows-before s i + k) (omega (arith, rows-within s c (ok .rows) i h)) .«distance_m»))
 
   pub sorted-distant : (k : ℕ) → k ≤ row-count s i → Every Distant (sorted (row-candidate s c i) k)
   unfolding sorted
@@ -133,24 +133,24 @@ module _ (s : List ℕ) (c : Counts) (i : ℕ) (h : i < c .p) (ok : WellFormed s
       go {xs} (some x) f ps = every-insert better Distant x xs (f x refl) ps
 
   -- the least distance of those of the first k rows that pass
-  module _ (k : ℕ) (l : k < row-count s i) (least : Float) (so : Alike least (nearest (sorted (row-candidate s c i) k))) where
-    pub least-none : row-candidate s c i k ≡ none → Alike least (nearest (sorted (row-candidate s c i) (k + 1)))
+  module _ (k : ℕ) (l : k < row-count s i) (least : Float) (so : EqualAmounts least (nearest (sorted (row-candidate s c i) k))) where
+    pub least-none : row-candidate s c i k ≡ none → EqualAmounts least (nearest (sorted (row-candidate s c i) (k + 1)))
     least-none e = rw (sorted-none (row-candidate s c i) k e) so
 
     module _ (x : Candidate) (e : row-candidate s c i k ≡ some x) where
-      after : rank (nearest (sorted (row-candidate s c i) (k + 1))) ≡ min (rank least) (rank (x .distance))
+      after : rank (nearest (sorted (row-candidate s c i) (k + 1))) ≡ min (rank least) (rank (x .distance-m))
       after = ap (λ (xs : List Candidate). rank (nearest xs)) (sorted-some (row-candidate s c i) k x e)
           ∙ insert-rank x (sorted (row-candidate s c i) k) (row-distant k l x e) (sorted-distant k (omega arith)) ∙ rw (alike-rank so)
 
       held : Amount (nearest (sorted (row-candidate s c i) (k + 1)))
       held = nearest-amount _ (sorted-distant (k + 1) (omega arith))
 
-      pub least-nearer : lt (x .distance) least ≡ true → Alike (x .distance) (nearest (sorted (row-candidate s c i) (k + 1)))
-      least-nearer t = alike _ _ (row-distant k l x e) held (omega (arith, after, less least (x .distance) (so .left) (row-distant k l x e) t))
+      pub least-nearer : lt (x .distance-m) least ≡ true → EqualAmounts (x .distance-m) (nearest (sorted (row-candidate s c i) (k + 1)))
+      least-nearer t = alike _ _ (row-distant k l x e) held (omega (arith, after, less least (x .distance-m) (so .left) (row-distant k l x e) t))
 
-      pub least-kept : lt (x .distance) least ≡ false → Alike least (nearest (sorted (row-candidate s c i) (k + 1)))
-      least-kept t = alike _ _ (so .left) held (omega (arith, after, not-less least (x .distance) (so .left) (row-distant k l x e) t))
+      pub least-kept : lt (x .distance-m) least ≡ false → EqualAmounts least (nearest (sorted (row-candidate s c i) (k + 1)))
+      least-kept t = alike _ _ (so .left) held (omega (arith, after, not-less least (x .distance-m) (so .left) (row-distant k l x e) t))
 
-pub least-begin : (s : List ℕ) (c : Counts) (i : ℕ) (d : Float) → d ≡ infinity → Alike d (nearest (sorted (row-candidate s c i) 0))
+pub least-begin : (s : List ℕ) (c : Counts) (i : ℕ) (d : Float) → d ≡ infinity → EqualAmounts d (nearest (sorted (row-candidate s c i) 0))
 unfolding sorted nearest fold
 least-begin s c i d e = rw e (alike infinity infinity infinity-amount infinity-amount refl)

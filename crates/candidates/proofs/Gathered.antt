@@ -13,18 +13,18 @@ use Rattle.model.specs.declared.Settings.{Settings}
 use Rattle.model.specs.declared.Point.{Point}
 use Rattle.model.specs.declared.Row.{Row}
 use Rattle.model.specs.declared.Road.{Road}
-use Rattle.model.specs.Lists.{In, insert, sort, fold, collect, cons-some, when, tab}
+use Rattle.model.specs.Lists.{In, insert, sort, fold, filter-map, cons-some, when, tabulate}
 use Rattle.model.specs.Layout.{points-bytes, rows-bytes}
 use Rattle.model.specs.Judge.{WellFormed, row-count, rows-before}
 use Rattle.model.specs.Sheet.{point-of, row-of, road-at, sheet-of}
-use Rattle.model.specs.View.{spot-of}
+use Rattle.model.specs.View.{projection-of}
 use Rattle.model.specs.Candidates.{Candidate, candidate-of, passes, candidate, better, find-candidates}
 use Rattle.model.proofs.Members.{in-take, Every, every-none}
 use Rattle.model.proofs.RowSums.{rows-within}
 use Rattle.sheet.proofs.Parts.{map-tab}
-use Rattle.sheet.proofs.Stops.{stop-point, stop-rows}
+use Rattle.sheet.proofs.MeasuredPoints.{measured-at, measured-rows}
 use Rattle.bounds.proofs.Sources.{when-some}
-use Rattle.candidates.specs.Found.{no-stop, stop-at, passing-at, candidates-at, OnSheet}
+use Rattle.candidates.specs.Found.{no-point, point-at, passing-at, candidates-at, OnSheet}
 use Rattle.candidates.proofs.Sorted.{Ordered, ordered-take, every-insert, insert-ordered}
 use Rattle.candidates.proofs.Insertion.{length-insert}
 use Rattle.candidates.proofs.Ranked.{ScoreAmount, better-orders}
@@ -78,17 +78,17 @@ one-more (some x) ys zs = refl
 
 module _ {A : Type 0} (f : A → Option Candidate) (h : ℕ → A) (b : ℕ) (g : ℕ → Option Candidate) (is : (j : ℕ) → f (h (b + j)) ≡ g j) where
   -- from the first k on
-  from : (m k i : ℕ) → i ≡ b + k → fold (λ us x. insert better x us) (sorted g k) (collect f (tab m i h)) ≡ sorted g (k + m)
-  unfolding fold collect tab sorted
+  from : (m k i : ℕ) → i ≡ b + k → fold (λ us x. insert better x us) (sorted g k) (filter-map f (tabulate m i h)) ≡ sorted g (k + m)
+  unfolding fold filter-map tabulate sorted
   from zero k i e = ap (sorted g) (sym (add-zero k))
   from (suc m) k i e =
       let more : k + suc m ≡ suc k + m = omega arith in
-      one-more (f (h i)) (sorted g k) (collect f (tab m (i + 1) h))
-      ∙ ap (λ (o : Option Candidate). fold (λ us x. insert better x us) (placed o (sorted g k)) (collect f (tab m (i + 1) h))) (ap (λ (j : ℕ). f (h j)) e ∙ is k)
+      one-more (f (h i)) (sorted g k) (filter-map f (tabulate m (i + 1) h))
+      ∙ ap (λ (o : Option Candidate). fold (λ us x. insert better x us) (placed o (sorted g k)) (filter-map f (tabulate m (i + 1) h))) (ap (λ (j : ℕ). f (h j)) e ∙ is k)
       ∙ from m (suc k) (i + 1) (omega arith)
       ∙ ap (sorted g) (sym more)
 
-  pub sorted-is : (n : ℕ) → sort better (collect f (tab n b h)) ≡ sorted g n
+  pub sorted-is : (n : ℕ) → sort better (filter-map f (tabulate n b h)) ≡ sorted g n
   unfolding sort sorted
   sorted-is n = from n 0 b (sym (add-zero b)) ∙ ap (sorted g) (zero-add n)
 
@@ -96,7 +96,7 @@ module _ {A : Type 0} (f : A → Option Candidate) (h : ℕ → A) (b : ℕ) (g 
 
 -- the candidate of the k-th row of point i, if it passes
 unfoldable pub row-candidate : List ℕ → Counts → ℕ → ℕ → Option Candidate
-row-candidate s c i k = candidate (sheet-of s c .settings) (point-of (points-bytes s c) i) (spot-of (sheet-of s c) (row-of (rows-bytes s c) (rows-before s i + k)))
+row-candidate s c i k = candidate (sheet-of s c .settings) (point-of (points-bytes s c) i) (projection-of (sheet-of s c) (row-of (rows-bytes s c) (rows-before s i + k)))
 
 module _ (s : List ℕ) (c : Counts) (i : ℕ) (h : i < c .p) where
   -- all of them, sorted, are those of the point that pass
@@ -104,10 +104,10 @@ module _ (s : List ℕ) (c : Counts) (i : ℕ) (h : i < c .p) where
   unfolding passing-at row-candidate
   sorted-all =
       let t = sheet-of s c in
-      let point = stop-point s c i h no-stop in
-      let spots : map (spot-of t) (stop-at t i .rows) ≡ tab (row-count s i) (rows-before s i) (λ k. spot-of t (row-of (rows-bytes s c) k)) =
-      ap (map (spot-of t)) (stop-rows s c i h no-stop) ∙ map-tab (spot-of t) (row-of (rows-bytes s c)) (row-count s i) (rows-before s i) in
-      sym (rw (point, spots) (sorted-is (candidate (t .settings) (point-of (points-bytes s c) i)) (λ k. spot-of t (row-of (rows-bytes s c) k)) (rows-before s i) (row-candidate s c i) (λ j. refl) (row-count s i)))
+      let point = measured-at s c i h no-point in
+      let spots : map (projection-of t) (point-at t i .rows) ≡ tabulate (row-count s i) (rows-before s i) (λ k. projection-of t (row-of (rows-bytes s c) k)) =
+      ap (map (projection-of t)) (measured-rows s c i h no-point) ∙ map-tab (projection-of t) (row-of (rows-bytes s c)) (row-count s i) (rows-before s i) in
+      sym (rw (point, spots) (sorted-is (candidate (t .settings) (point-of (points-bytes s c) i)) (λ k. projection-of t (row-of (rows-bytes s c) k)) (rows-before s i) (row-candidate s c i) (λ j. refl) (row-count s i)))
 
   -- cut, they are its candidates
   pub cut-is : take (sheet-of s c .settings .«max_candidates») (sorted (row-candidate s c i) (row-count s i)) ≡ candidates-at (sheet-of s c) i
@@ -122,7 +122,7 @@ module _ (s : List ℕ) (c : Counts) (i : ℕ) (h : i < c .p) where
         let at : rows-before s i + k < c .m = omega (arith, rows-within s c (ok .rows) i h) in
         let settings = sheet-of s c .settings in
         let point = point-of (points-bytes s c) i in
-        let spot = spot-of (sheet-of s c) (row-of (rows-bytes s c) (rows-before s i + k)) in
+        let spot = projection-of (sheet-of s c) (row-of (rows-bytes s c) (rows-before s i + k)) in
         let y = candidate-of settings point spot in
         let w = when-some (passes settings y) y x e in
         (subst ScoreAmount (w .1) (passing-score settings point spot (weighed s c ok) (measured s c ok i h (rows-before s i + k) at) (w .0)), subst (OnSheet (sheet-of s c) c) (w .1) (on-sheet s c ok i h (rows-before s i + k) at))

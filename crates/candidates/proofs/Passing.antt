@@ -31,10 +31,10 @@ module _ (c : Settings) (x : Candidate) where
   unfolding passes
   drop-class e = rw e
 
-  pub drop-distance : off-class c x ≡ false → lt (c .«search_radius_m») (x .distance) ≡ true → false ≡ passes c x
+  pub drop-distance : off-class c x ≡ false → lt (c .«search_radius_m») (x .distance-m) ≡ true → false ≡ passes c x
   unfolding passes
   drop-distance e f = rw (e, f)
 
-  pub by-bearing : off-class c x ≡ false → lt (c .«search_radius_m») (x .distance) ≡ false → not (lt (c .«max_bearing_diff») (x .bearing-diff)) ≡ passes c x
+  pub by-bearing : off-class c x ≡ false → lt (c .«search_radius_m») (x .distance-m) ≡ false → not (lt (c .«max_bearing_diff») (x .bearing-diff)) ≡ passes c x
   unfolding passes
   by-bearing e f = rw (e, f)

@@ -14,7 +14,7 @@ use lib.Seq.{take-all}
 use Rattle.model.specs.declared.Counts.{Counts}
 use Rattle.model.specs.declared.Settings.{Settings}
 use Rattle.model.specs.Numbers.{infinity}
-use Rattle.model.specs.Lists.{In, maybe, tab}
+use Rattle.model.specs.Lists.{In, maybe, tabulate}
 use Rattle.model.specs.Judge.{WellFormed, row-count, rows-before}
 use Rattle.model.specs.Sheet.{sheet-of}
 use Rattle.model.specs.Candidates.{Candidate, nearest, Closest, closest, closest-point}
@@ -29,19 +29,19 @@ use Rattle.candidates.specs.declared.closest.Points.{Points}
 use Rattle.candidates.specs.declared.closest.Points.the-variants.{Fine, NoCandidate}
 use Rattle.candidates.specs.Found.{candidates-at}
 use Rattle.candidates.specs.Points.{candidates-of, close-enough, judge-points, points-of}
-use Rattle.candidates.specs.Near.{Alike}
+use Rattle.candidates.specs.Nearest.{EqualAmounts}
 use Rattle.candidates.proofs.Ranked.{lt-is}
 use Rattle.candidates.proofs.SheetFacts.{most-finite}
 use Rattle.candidates.proofs.Gathered.{cut-is}
 use Rattle.candidates.proofs.Distances.{alike, alike-rank, infinity-amount, finite-below, less, not-less, Distant, nearest-amount, sorted-distant}
 use Rattle.candidates.proofs.Rules.{candidates-are, no-points}
 
-front-of : {A : Type 0} (f : ℕ → A) (n i : ℕ) → i < n → tab (n - i) i f ≡ f i ∷ tab (n - (i + 1)) (i + 1) f
-unfolding tab
+front-of : {A : Type 0} (f : ℕ → A) (n i : ℕ) → i < n → tabulate (n - i) i f ≡ f i ∷ tabulate (n - (i + 1)) (i + 1) f
+unfolding tabulate
 front-of f n i h = let e : n - i ≡ suc (n - (i + 1)) = omega arith in rw e
 
-past : {A : Type 0} (f : ℕ → A) (n i : ℕ) → n ≤ i → tab (n - i) i f ≡ []
-unfolding tab
+past : {A : Type 0} (f : ℕ → A) (n i : ℕ) → n ≤ i → tabulate (n - i) i f ≡ []
+unfolding tabulate
 past f n i h = let e : n - i ≡ 0 = omega arith in rw e
 
 -- ---- the nearest of all
@@ -92,7 +92,7 @@ module _ (s : List ℕ) (c : Counts) (ok : WellFormed s c) (set : Settings) (es 
   pub away-amount : (i : ℕ) → i < c .p → Amount (nearest (candidates-at (sheet-of s c) i))
   away-amount i h = nearest-amount _ (subst (Every Distant) (cut-is s c i h) (λ x m. sorted-distant s c i h ok (row-count s i) (le-refl _) x (in-take (sheet-of s c .settings .«max_candidates») _ m)))
 
-  distances-are : map nearest (candidates-of (sheet-of s c)) ≡ tab (c .p) 0 away-of
+  distances-are : map nearest (candidates-of (sheet-of s c)) ≡ tabulate (c .p) 0 away-of
   distances-are = ap (map nearest) (candidates-are s c) ∙ map-tab nearest (candidates-at (sheet-of s c)) (c .p) 0
 
   -- Before point i, with the least distance so far and its point: none is near enough yet, and the nearest from there on is that of all points.
@@ -101,9 +101,9 @@ module _ (s : List ℕ) (c : Counts) (ok : WellFormed s c) (set : Settings) (es 
     pub begins : first ≡ rows-before s i
     pub best : Closest
     pub point : at ≡ best .point
-    pub same : Alike least (best .distance)
+    pub same : EqualAmounts least (best .distance)
     pub far : rank (set .«max_candidate_distance_m») < rank (best .distance)
-    pub rest : closest i best (tab (c .p - i) i (λ j. nearest (candidates-at (sheet-of s c) j))) ≡ closest-point (candidates-of (sheet-of s c))
+    pub rest : closest i best (tabulate (c .p - i) i (λ j. nearest (candidates-at (sheet-of s c) j))) ≡ closest-point (candidates-of (sheet-of s c))
 
   pub begun : (least : Float) → least ≡ infinity → SoFar 0 0 0 least
   unfolding closest-point
@@ -118,15 +118,15 @@ module _ (s : List ℕ) (c : Counts) (ok : WellFormed s c) (set : Settings) (es 
   }
 
   module _ (i at first : ℕ) (least : Float) (so : SoFar i at first least) where
-    module _ (h : i < c .p) (d : Float) (same : Alike d (nearest (candidates-at (sheet-of s c) i))) where
-      later : Every Amount (tab (c .p - (i + 1)) (i + 1) away-of)
+    module _ (h : i < c .p) (d : Float) (same : EqualAmounts d (nearest (candidates-at (sheet-of s c) i))) where
+      later : Every Amount (tabulate (c .p - (i + 1)) (i + 1) away-of)
       later x m =
           let w = in-tab (c .p - (i + 1)) (i + 1) away-of m in
           subst Amount (w .2) (away-amount (i + 1 + w .0) (omega (arith, w .1)))
 
-      onward : closest (i + 1) (closer i (so .best) (away-of i)) (tab (c .p - (i + 1)) (i + 1) away-of) ≡ closest-point (candidates-of (sheet-of s c))
+      onward : closest (i + 1) (closer i (so .best) (away-of i)) (tabulate (c .p - (i + 1)) (i + 1) away-of) ≡ closest-point (candidates-of (sheet-of s c))
       unfolding closest
-      onward = ap (λ (j : ℕ). closest j (closer i (so .best) (away-of i)) (tab (c .p - (i + 1)) (i + 1) away-of)) (add-one i) ∙ sym (ap (closest i (so .best)) (front-of away-of (c .p) i h)) ∙ so .rest
+      onward = ap (λ (j : ℕ). closest j (closer i (so .best) (away-of i)) (tabulate (c .p - (i + 1)) (i + 1) away-of)) (add-one i) ∙ sym (ap (closest i (so .best)) (front-of away-of (c .p) i h)) ∙ so .rest
 
       low : Amount (closer i (so .best) (away-of i) .distance) × (rank (closer i (so .best) (away-of i) .distance) ≤ rank (so .best .distance)) × (rank (closer i (so .best) (away-of i) .distance) ≤ rank (away-of i))
       low = closer-low i (so .best) (away-of i) (so .same .right) (same .right)
@@ -134,7 +134,7 @@ module _ (s : List ℕ) (c : Counts) (ok : WellFormed s c) (set : Settings) (es 
       pub near : le d most ≡ true → Fine ≡ close-enough (set .«max_candidate_distance_m») (candidates-of (sheet-of s c))
       unfolding close-enough
       near t =
-          let all = closest-low (i + 1) (closer i (so .best) (away-of i)) (tab (c .p - (i + 1)) (i + 1) away-of) (low .0) later in
+          let all = closest-low (i + 1) (closer i (so .best) (away-of i)) (tabulate (c .p - (i + 1)) (i + 1) away-of) (low .0) later in
           let r : rank d ≤ rank most = le-rank d most (same .left) most-amount (subst T (sym t) tt) in
           let e : le (closest-point (candidates-of (sheet-of s c)) .distance) most ≡ true =
           ap (λ (b : Closest). le (b .distance) most) (sym onward) ∙ below _ most (all .0) most-amount (omega (arith, all .1, low .2, alike-rank same)) in
@@ -174,7 +174,7 @@ module _ (s : List ℕ) (c : Counts) where
   pub record Filled (i first : ℕ) : Type 0 where
     pub within : i ≤ c .p
     pub begins : first ≡ rows-before s i
-    pub rest : first-empty i (tab (c .p - i) i (candidates-at (sheet-of s c))) ≡ first-empty 0 (candidates-of (sheet-of s c))
+    pub rest : first-empty i (tabulate (c .p - i) i (candidates-at (sheet-of s c))) ≡ first-empty 0 (candidates-of (sheet-of s c))
 
   pub filled-none : Filled 0 0
   filled-none = record { within = omega arith; begins = sym (before-none s); rest = let z : c .p - 0 ≡ c .p = omega arith in rw (z, candidates-are s c) }
@@ -204,7 +204,7 @@ module _ (s : List ℕ) (c : Counts) where
         rest = go (candidates-at (sheet-of s c) i) g ∙ sym (ap (first-empty i) (front-of (candidates-at (sheet-of s c)) (c .p) i h)) ∙ so .rest;
       }
         where
-          go : (ys : List Candidate) → 0 < length ys → first-empty (i + 1) (tab (c .p - (i + 1)) (i + 1) (candidates-at (sheet-of s c))) ≡ first-empty i (ys ∷ tab (c .p - (i + 1)) (i + 1) (candidates-at (sheet-of s c)))
+          go : (ys : List Candidate) → 0 < length ys → first-empty (i + 1) (tabulate (c .p - (i + 1)) (i + 1) (candidates-at (sheet-of s c))) ≡ first-empty i (ys ∷ tabulate (c .p - (i + 1)) (i + 1) (candidates-at (sheet-of s c)))
           go [] g = absurd (omega arith)
           go (y ∷ ys) g = refl
 

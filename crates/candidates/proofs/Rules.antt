@@ -12,23 +12,23 @@ use lib.Seq.{take-all, take-take}
 use lib.Ieee.{Float, lt, le}
 use Rattle.model.specs.declared.Counts.{Counts}
 use Rattle.model.specs.Numbers.{fmin, infinity}
-use Rattle.model.specs.Lists.{fold, maybe, tab}
+use Rattle.model.specs.Lists.{fold, maybe, tabulate}
 use Rattle.model.specs.Layout.{points-bytes, rows-bytes}
-use Rattle.model.specs.Sheet.{Stop, Sheet, stop-of, sheet-of}
-use Rattle.model.specs.View.{View, view, place-of}
-use Rattle.model.specs.Search.{Searcher}
+use Rattle.model.specs.Sheet.{MeasuredPoint, Sheet, measured-point, sheet-of}
+use Rattle.model.specs.View.{View, view, projected-point}
+use Rattle.model.specs.Search.{Search}
 use Rattle.model.specs.Candidates.{Candidate, find-candidates, nearest, Closest, closest, closest-point}
 use Rattle.model.specs.Decode.{refused, Outcome, first-empty, require-close-candidate, decode-legs, decode-points}
 use Rattle.model.proofs.Members.{length-tab, map-take}
-use Rattle.model.proofs.Parsed.{stop-is}
+use Rattle.model.proofs.Parsed.{measured-point-is}
 use Rattle.sheet.proofs.Parts.{map-tab}
 use Rattle.candidates.specs.declared.closest.Points.{Points}
 use Rattle.candidates.specs.declared.closest.Points.the-variants.{Fine, NoCandidate}
 use Rattle.candidates.specs.declared.closest.Seen.{Seen}
 use Rattle.candidates.specs.declared.closest.Away.{Away}
 use Rattle.candidates.specs.declared.closest.Aways.{Aways}
-use Rattle.candidates.specs.Found.{no-stop, passing-at, candidates-at}
-use Rattle.candidates.specs.Near.{Alike, Looked, away, no-away, InOrder, least-of}
+use Rattle.candidates.specs.Found.{no-point, passing-at, candidates-at}
+use Rattle.candidates.specs.Nearest.{EqualAmounts, Looked, away, no-away, InOrder, least-of}
 use Rattle.candidates.specs.Points.{candidates-of, close-enough, judge-points, points-of, after-points}
 
 -- ---- the least distance of a point
@@ -65,7 +65,7 @@ unfolding candidates-at passing-at find-candidates
 candidates-cut t i = refl
 
 module _ (t : Sheet) (i : ℕ) (most : ℕ) (em : most ≡ t .settings .«max_candidates») where
-  pub all-kept : (x : Seen) → Looked t i x → x .passing ≤ most → Alike (x .least) (nearest (candidates-at t i))
+  pub all-kept : (x : Seen) → Looked t i x → x .passing ≤ most → EqualAmounts (x .least) (nearest (candidates-at t i))
   all-kept x h le =
       let is : candidates-at t i ≡ passing-at t i = candidates-cut t i ∙ take-all (t .settings .«max_candidates») (passing-at t i) (omega (arith, h .passing)) in
       rw is (h .least)
@@ -85,7 +85,7 @@ choice true i o = refl
 choice false i o = refl
 
 -- what it means for the whole decode
-pub decode-after : (v : View) (search : Searcher) (cs : List (List Candidate)) → decode-points v search cs ≡ after-points (judge-points (v .settings .«max_candidate_distance_m») cs) (decode-legs v search cs)
+pub decode-after : (v : View) (search : Search) (cs : List (List Candidate)) → decode-points v search cs ≡ after-points (judge-points (v .settings .«max_candidate_distance_m») cs) (decode-legs v search cs)
 unfolding decode-points judge-points after-points decode-legs maybe require-close-candidate close-enough
 decode-after v search [] = refl
 decode-after v search (xs ∷ rest) = go (first-empty 0 (xs ∷ rest))
@@ -95,37 +95,37 @@ decode-after v search (xs ∷ rest) = go (first-empty 0 (xs ∷ rest))
     go (some i) = refl
 
 -- the same of a sheet
-pub decode-sheet-after : (t : Sheet) (search : Searcher) → decode-points (view t) search (candidates-of t) ≡ after-points (points-of t) (decode-legs (view t) search (candidates-of t))
+pub decode-sheet-after : (t : Sheet) (search : Search) → decode-points (view t) search (candidates-of t) ≡ after-points (points-of t) (decode-legs (view t) search (candidates-of t))
 unfolding points-of view
 decode-sheet-after t search = decode-after (view t) search (candidates-of t)
 
 -- ---- the candidates of all points, by number
 
-tab-same : {A : Type 0} (f g : ℕ → A) (n b : ℕ) → ((k : ℕ) → k < n → f (b + k) ≡ g (b + k)) → tab n b f ≡ tab n b g
-unfolding tab
+tab-same : {A : Type 0} (f g : ℕ → A) (n b : ℕ) → ((k : ℕ) → k < n → f (b + k) ≡ g (b + k)) → tabulate n b f ≡ tabulate n b g
+unfolding tabulate
 tab-same f g zero b e = refl
 tab-same {A} f g (suc n) b e =
     let one : f b ≡ g b = rw (add-zero b) at (e 0 (zero-lt-suc n)) in
-    ap (λ (x : A). x ∷ tab n (b + 1) f) one ∙ ap (λ (xs : List A). g b ∷ xs) (tab-same f g n (b + 1) (λ k h. let j : b + suc k ≡ b + 1 + k = omega arith in rw j at (e (suc k) (omega arith))))
+    ap (λ (x : A). x ∷ tabulate n (b + 1) f) one ∙ ap (λ (xs : List A). g b ∷ xs) (tab-same f g n (b + 1) (λ k h. let j : b + suc k ≡ b + 1 + k = omega arith in rw j at (e (suc k) (omega arith))))
 
 module _ (s : List ℕ) (c : Counts) where
-  stops-are : sheet-of s c .stops ≡ tab (c .p) 0 (stop-of (points-bytes s c) (rows-bytes s c))
+  points-are : sheet-of s c .points ≡ tabulate (c .p) 0 (measured-point (points-bytes s c) (rows-bytes s c))
   unfolding sheet-of
-  stops-are = refl
+  points-are = refl
 
   -- the candidates of all points, by number
-  pub candidates-are : candidates-of (sheet-of s c) ≡ tab (c .p) 0 (candidates-at (sheet-of s c))
+  pub candidates-are : candidates-of (sheet-of s c) ≡ tabulate (c .p) 0 (candidates-at (sheet-of s c))
   unfolding candidates-of view candidates-at
   candidates-are =
       let t = sheet-of s c in
-      let stop = stop-of (points-bytes s c) (rows-bytes s c) in
-      ap (λ (xs : List Stop). map (find-candidates (t .settings)) (map (place-of t) xs)) stops-are
-      ∙ ap (map (find-candidates (t .settings))) (map-tab (place-of t) stop (c .p) 0)
-      ∙ map-tab (find-candidates (t .settings)) (λ k. place-of t (stop k)) (c .p) 0
-      ∙ tab-same (λ k. find-candidates (t .settings) (place-of t (stop k))) (candidates-at t) (c .p) 0 (λ k h. ap (λ (x : Stop). find-candidates (t .settings) (place-of t x)) (sym (stop-is s c (0 + k) (omega arith) no-stop)))
+      let stop = measured-point (points-bytes s c) (rows-bytes s c) in
+      ap (λ (xs : List MeasuredPoint). map (find-candidates (t .settings)) (map (projected-point t) xs)) points-are
+      ∙ ap (map (find-candidates (t .settings))) (map-tab (projected-point t) stop (c .p) 0)
+      ∙ map-tab (find-candidates (t .settings)) (λ k. projected-point t (stop k)) (c .p) 0
+      ∙ tab-same (λ k. find-candidates (t .settings) (projected-point t (stop k))) (candidates-at t) (c .p) 0 (λ k h. ap (λ (x : MeasuredPoint). find-candidates (t .settings) (projected-point t x)) (sym (measured-point-is s c (0 + k) (omega arith) no-point)))
 
   pub no-points : c .p ≡ 0 → Fine ≡ points-of (sheet-of s c)
-  unfolding points-of judge-points tab
+  unfolding points-of judge-points tabulate
   no-points e =
       let none : candidates-of (sheet-of s c) ≡ [] = candidates-are ∙ rw e in
       rw none

@@ -12,14 +12,14 @@ use Rattle.model.specs.Bytes.{u64-at, f64-at}
 use Rattle.model.specs.Layout.{settings-at, settings-bytes, points-bytes, rows-bytes}
 use Rattle.model.specs.Judge.{WellFormed, source-of, row-count, rows-before, row-road, row-rises, point-rises, rows-good}
 use Rattle.model.specs.Sheet.{settings-of, point-of, row-of, sheet-of, road-at}
-use Rattle.model.specs.View.{Spot, spot-of}
+use Rattle.model.specs.View.{Projection, projection-of}
 use Rattle.model.specs.Candidates.{candidate-of}
 use Rattle.model.proofs.Judging.{all-of-at}
 use Rattle.model.proofs.Listed.{every-at}
 use Rattle.model.proofs.Fields.{settings-most, point-bearing-most, point-class-most, class-most, row-road-below, row-distance-most, row-bearing-most, source-below, target-below}
 use Rattle.model.proofs.Parsed.{setting-is, row-road-is, row-distance-is, row-bearing-is, number-is, source-is, target-is}
 use Rattle.sheet.proofs.RoadFields.{frc-is, fow-is}
-use Rattle.sheet.proofs.Stops.{point-is}
+use Rattle.sheet.proofs.MeasuredPoints.{point-is}
 use Rattle.bounds.specs.Amounts.{Finite}
 use Rattle.bounds.proofs.AmountLaws.{bits-finite}
 use Rattle.candidates.specs.Found.{OnSheet}
@@ -50,10 +50,10 @@ module _ (s : List ℕ) (c : Counts) (ok : WellFormed s c) where
     road-below : row-of (rows-bytes s c) k .road < c .e
     road-below = rw (row-road-is s c k g) (row-road-below s c (ok .sound) k g)
 
-    abbrev spot : Spot
-    spot = spot-of (sheet-of s c) (row-of (rows-bytes s c) k)
+    abbrev spot : Projection
+    spot = projection-of (sheet-of s c) (row-of (rows-bytes s c) k)
 
-    pub measured : Measured (point-of (points-bytes s c) i) (spot-of (sheet-of s c) (row-of (rows-bytes s c) k))
+    pub measured : Measured (point-of (points-bytes s c) i) (projection-of (sheet-of s c) (row-of (rows-bytes s c) k))
     unfolding f64-at
     measured =
         let r = row-of (rows-bytes s c) k .road in
@@ -66,11 +66,11 @@ module _ (s : List ℕ) (c : Counts) (ok : WellFormed s c) where
           wanted-form = rw (ap (λ (x : Point). x .fow) p) (classes .1);
           class = rw (frc-is s c r road-below) (road-classes .0);
           form = rw (fow-is s c r road-below) (road-classes .1);
-          distance = rw (row-distance-is s c k g) (bits-finite _ (row-distance-most s c (ok .sound) k g));
+          «distance_m» = rw (row-distance-is s c k g) (bits-finite _ (row-distance-most s c (ok .sound) k g));
           bearing = rw (row-bearing-is s c k g) (bits-turned _ (row-bearing-most s c (ok .sound) k g));
         }
 
-    pub on-sheet : OnSheet (sheet-of s c) c (candidate-of (sheet-of s c .settings) (point-of (points-bytes s c) i) (spot-of (sheet-of s c) (row-of (rows-bytes s c) k)))
+    pub on-sheet : OnSheet (sheet-of s c) c (candidate-of (sheet-of s c .settings) (point-of (points-bytes s c) i) (projection-of (sheet-of s c) (row-of (rows-bytes s c) k)))
     unfolding candidate-of source-of
     on-sheet =
         let r = row-of (rows-bytes s c) k .road in

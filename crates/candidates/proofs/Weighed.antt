@@ -14,8 +14,8 @@ use lib.Ieee.Positive.{first-pos}
 use Rattle.model.specs.declared.Settings.{Settings}
 use Rattle.model.specs.declared.Point.{Point}
 use Rattle.model.specs.Numbers.{f0, f1, f360, nat}
-use Rattle.model.specs.Lists.{all, tab}
-use Rattle.model.specs.View.{Spot, is-slip}
+use Rattle.model.specs.Lists.{all, tabulate}
+use Rattle.model.specs.View.{Projection, is-slip}
 use Rattle.model.specs.Candidates.{normalize, compute-score, class-difference, substitution-score, bearing-difference, candidate-of, passes}
 use Rattle.road_network.proofs.Pairs.{at-pair}
 use Rattle.bounds.specs.Amounts.{measured, Amount, Finite, Portion}
@@ -109,34 +109,34 @@ score-amount c distance bearing class fow w p hp q hq k f =
 -- ---- the leaves
 
 fow-portion : (a b : ℕ) → a ≤ 7 → b ≤ 7 → Portion (substitution-score a b)
-unfolding all tab substitution-score
+unfolding all tabulate substitution-score
 fow-portion a b h g =
     let t = at-pair 8 8 (λ a b. measured (substitution-score a b) && le (substitution-score a b) f1) (unfold measured fits le ofBits in tt) a b (omega arith) (omega arith) in
     record { finite = and-l (measured (substitution-score a b)) (le (substitution-score a b) f1) t; within = and-r (measured (substitution-score a b)) (le (substitution-score a b) f1) t }
 
 class-most : (a b : ℕ) → a ≤ 7 → b ≤ 7 → class-difference a b ≤ 360
-unfolding all tab
+unfolding all tabulate
 class-most a b h g = leb→le (class-difference a b) 360 (at-pair 8 8 (λ a b. leb (class-difference a b) 360) tt a b (omega arith) (omega arith))
 
--- what a well-formed sheet says of a point and of a spot of it
-pub record Measured (p : Point) (s : Spot) : Type 0 where
+-- what a well-formed sheet says of a point and of a projection of it
+pub record Measured (p : Point) (s : Projection) : Type 0 where
   pub heading : p .bearing ≤ 360
   pub wanted-class : p .frc ≤ 7
   pub wanted-form : p .fow ≤ 7
   pub class : s .road .frc ≤ 7
   pub form : s .road .fow ≤ 7
-  pub distance : Finite (s .row .distance)
+  pub «distance_m» : Finite (s .row .«distance_m»)
   pub bearing : Turned (s .row .bearing)
 
-pub passing-score : (c : Settings) (p : Point) (s : Spot) → Weighed c → Measured p s → T (passes c (candidate-of c p s)) → Amount (candidate-of c p s .score)
+pub passing-score : (c : Settings) (p : Point) (s : Projection) → Weighed c → Measured p s → T (passes c (candidate-of c p s)) → Amount (candidate-of c p s .score)
 unfolding candidate-of passes
 passing-score c p s w m t =
     let bearing = bearing-difference (nat (p .bearing)) (s .row .bearing) in
     let class = class-difference (s .road .frc) (p .frc) in
     let fow = substitution-score (p .fow) (s .road .fow) in
     let a = ltb (c .«frc_tolerance») class && not (is-slip (s .road)) in
-    let b = lt (c .«search_radius_m») (s .row .distance) in
+    let b = lt (c .«search_radius_m») (s .row .«distance_m») in
     let d = lt (c .«max_bearing_diff») bearing in
-    score-amount c (s .row .distance) bearing class fow w (m .distance) (and-r (not a) (not b) (and-l (not a && not b) (not d) t))
+    score-amount c (s .row .«distance_m») bearing class fow w (m .«distance_m») (and-r (not a) (not b) (and-l (not a && not b) (not d) t))
     (angle _ _ (nat-turned (p .bearing) (m .heading)) (m .bearing) .finite) (and-r (not a && not b) (not d) t)
     (class-most (s .road .frc) (p .frc) (m .class) (m .wanted-class)) (fow-portion (p .fow) (s .road .fow) (m .wanted-form) (m .form))

@@ -9,9 +9,9 @@ use lib.Ieee.{nan, le}
 use Rattle.model.specs.declared.Counts.{Counts}
 use Rattle.model.specs.declared.Road.{Road}
 use Rattle.model.specs.Numbers.{f0}
-use Rattle.model.specs.Sheet.{Stop, Sheet, road-at}
-use Rattle.model.specs.Lists.{sort, collect}
-use Rattle.model.specs.View.{spot-of, place-of}
+use Rattle.model.specs.Sheet.{MeasuredPoint, Sheet, road-at}
+use Rattle.model.specs.Lists.{sort, filter-map}
+use Rattle.model.specs.View.{projection-of, projected-point}
 use Rattle.model.specs.Candidates.{Candidate, candidate, better, find-candidates}
 use Rattle.model.specs.Legs.{most-tried}
 use Rattle.bounds.specs.Amounts.{Amount}
@@ -19,18 +19,18 @@ use Rattle.candidates.specs.declared.candidate.Candidate as code
 use Rattle.candidates.specs.declared.find.Candidates.{Candidates}
 
 -- past the last point: a point without rows
-abbrev pub no-stop : Stop
-no-stop = record { point = record { dnp = f0; bearing = 0; frc = 0; fow = 0; limit = 255 }; rows = [] }
+abbrev pub no-point : MeasuredPoint
+no-point = record { point = record { dnp = f0; bearing = 0; frc = 0; fow = 0; limit = 255 }; rows = [] }
 
-abbrev pub stop-at : Sheet → ℕ → Stop
-stop-at t i = getD (t .stops) i no-stop
+abbrev pub point-at : Sheet → ℕ → MeasuredPoint
+point-at t i = getD (t .points) i no-point
 
 -- those that pass, in order
 unfoldable pub passing-at : Sheet → ℕ → List Candidate
-passing-at t i = sort better (collect (candidate (t .settings) (stop-at t i .point)) (map (spot-of t) (stop-at t i .rows)))
+passing-at t i = sort better (filter-map (candidate (t .settings) (point-at t i .point)) (map (projection-of t) (point-at t i .rows)))
 
 unfoldable pub candidates-at : Sheet → ℕ → List Candidate
-candidates-at t i = find-candidates (t .settings) (place-of t (stop-at t i))
+candidates-at t i = find-candidates (t .settings) (projected-point t (point-at t i))
 
 -- a candidate on a road of the sheet t with the counts c
 pub record OnSheet (t : Sheet) (c : Counts) (x : Candidate) : Type 0 where
@@ -44,22 +44,22 @@ pub record OnSheet (t : Sheet) (c : Counts) (x : Candidate) : Type 0 where
 -- ---- the code's candidate and the definition's: one has the road's number, the other its record
 
 abbrev pub by-number : Candidate → code.Candidate
-by-number x = record { road = x .road .number; distance = x .distance; «bearing_diff» = x .bearing-diff; «frc_diff» = x .frc-diff; «fow_score» = x .fow-score; score = x .score; fraction = x .fraction }
+by-number x = record { «edge_idx» = x .road .number; «distance_m» = x .distance-m; «bearing_diff» = x .bearing-diff; «frc_diff» = x .frc-diff; «fow_score» = x .fow-score; score = x .score; «projection_fraction» = x .projection-fraction }
 
 -- the candidate that it stands for, on the road r
 abbrev pub on : Road → code.Candidate → Candidate
-on r x = record { road = r; distance = x .distance; bearing-diff = x .«bearing_diff»; frc-diff = x .«frc_diff»; fow-score = x .«fow_score»; score = x .score; fraction = x .fraction }
+on r x = record { road = r; distance-m = x .«distance_m»; bearing-diff = x .«bearing_diff»; frc-diff = x .«frc_diff»; fow-score = x .«fow_score»; score = x .score; projection-fraction = x .«projection_fraction» }
 
 -- what stands in an array past its end
 abbrev pub no-candidate : Candidate
 no-candidate = record {
-  road = record { number = 0; id = 0; metres = nan; source = 0; target = 0; frc = 0; fow = 0; access = false };
-  distance = nan;
+  road = record { number = 0; id = 0; «length_m» = nan; source = 0; target = 0; frc = 0; fow = 0; access = false };
+  distance-m = nan;
   bearing-diff = nan;
   frc-diff = 0;
   fow-score = nan;
   score = nan;
-  fraction = nan;
+  projection-fraction = nan;
 }
 
 abbrev pub no-item : code.Candidate
@@ -78,7 +78,7 @@ tried-at t i = take most-tried (candidates-at t i)
 
 -- the candidate that x stands for
 abbrev pub at-road : Sheet → code.Candidate → Candidate
-at-road t x = on (road-at t (x .road)) x
+at-road t x = on (road-at t (x .«edge_idx»)) x
 
 -- those that xs holds
 unfoldable pub held : Sheet → Candidates → List Candidate
@@ -88,14 +88,14 @@ abbrev pub item-at : Candidates → ℕ → code.Candidate
 item-at xs k = getD (xs .items) k no-item
 
 -- at most ten, on roads of the sheet, with scores that are amounts and never fall
-pub record Ready (c : Counts) (xs : Candidates) : Type 0 where
+pub record CandidatesReady (c : Counts) (xs : Candidates) : Type 0 where
   pub few : xs .count ≤ most-tried
   pub room : xs .count ≤ length (xs .items)
-  pub named : (k : ℕ) → k < xs .count → item-at xs k .road < c .e
+  pub named : (k : ℕ) → k < xs .count → item-at xs k .«edge_idx» < c .e
   pub amounts : (k : ℕ) → k < xs .count → Amount (item-at xs k .score)
   pub rise : (j k : ℕ) → j < k → k < xs .count → T (le (item-at xs j .score) (item-at xs k .score))
 
 -- xs holds those of point i that a leg tries
-pub record Lists (t : Sheet) (c : Counts) (i : ℕ) (xs : Candidates) : Type 0 where
+pub record CandidatesOf (t : Sheet) (c : Counts) (i : ℕ) (xs : Candidates) : Type 0 where
   pub are : held t xs ≡ tried-at t i
-  pub ready : Ready c xs
+  pub ready : CandidatesReady c xs

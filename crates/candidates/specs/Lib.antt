@@ -1,4 +1,4 @@
 -- The definitions that the contracts cite.
 pub mod Found
-pub mod Near
+pub mod Nearest
 pub mod Points

@@ -13,7 +13,7 @@ use Rattle.candidates.specs.declared.closest.Points.the-variants.{Fine, 
 
 -- the candidates of all points
 unfoldable pub candidates-of : Sheet → List (List Candidate)
-candidates-of t = map (find-candidates (view t .settings)) (view t .places)
+candidates-of t = map (find-candidates (view t .settings)) (view t .points)
 
 -- the point that the closest-candidate rule refuses, if the least distance is above `most`
 unfoldable pub close-enough : Float → List (List Candidate) → Points

@@ -13,13 +13,13 @@ ghost use Rattle.candidates.specs.Found.{by-number};
 
 // A road that a point may lie on, by its number.
 pub struct Candidate {
-    pub road: usize,
-    pub distance: f64,
+    pub edge_idx: usize,
+    pub distance_m: f64,
     pub bearing_diff: f64,
     pub frc_diff: u8,
     pub fow_score: f64,
     pub score: f64,
-    pub fraction: f64,
+    pub projection_fraction: f64,
 }
 
 // The candidate of a row w of the point p, on the road r that it names.
@@ -30,28 +30,28 @@ pub fn candidate_of(c: Settings, p: Point, w: Row, r: Road) -> Candidate
     let bearing_diff = spatial::bearing_difference(p.bearing as f64, w.bearing);
     let frc_diff = road_class::class_difference(r.frc, p.frc);
     let fow_score = road_class::substitution_score(p.fow, r.fow);
-    let score = score::compute_score(c, w.distance, bearing_diff, frc_diff, fow_score);
-    let fraction = spatial::fraction(w.along, w.line);
+    let score = score::compute_score(c, w.distance_m, bearing_diff, frc_diff, fow_score);
+    let projection_fraction = spatial::fraction(w.along_m, w.length_m);
     Candidate {
-        road: r.number,
-        distance: w.distance,
+        edge_idx: r.number,
+        distance_m: w.distance_m,
         bearing_diff,
         frc_diff,
         fow_score,
         score,
-        fraction,
+        projection_fraction,
     }
 }
 
 // Its score alone.
-pub fn score_of(c: Settings, p: Point, w: Row, r: Road) -> f64
+pub fn candidate_score(c: Settings, p: Point, w: Row, r: Road) -> f64
     requires { ⌜ (p .frc ≤ 7) × (r .frc ≤ 7) ⌝ }
     ensures { λ v. ⌜ v ≡ candidate-of c p (record { row = w; road = r }) .score ⌝ }
 {
     let bearing_diff = spatial::bearing_difference(p.bearing as f64, w.bearing);
     let frc_diff = road_class::class_difference(r.frc, p.frc);
     let fow_score = road_class::substitution_score(p.fow, r.fow);
-    score::compute_score(c, w.distance, bearing_diff, frc_diff, fow_score)
+    score::compute_score(c, w.distance_m, bearing_diff, frc_diff, fow_score)
 }
 
 // Whether it is kept: a class difference above the tolerance drops it unless it is a slip road; distance and bearing only above their maxima.
@@ -63,7 +63,7 @@ pub fn passes(c: Settings, p: Point, w: Row, r: Road) -> bool
     if frc_diff > c.frc_tolerance && r.fow != 6 {
         return false;
     }
-    if w.distance > c.search_radius_m {
+    if w.distance_m > c.search_radius_m {
         return false;
     }
     let bearing_diff = spatial::bearing_difference(p.bearing as f64, w.bearing);

@@ -16,7 +16,7 @@ ghost use Rattle.model.specs.Sheet.{sheet-of};
 ghost use Rattle.model.specs.Candidates.{nearest};
 ghost use Rattle.candidates.specs.Found.{candidates-at};
 ghost use Rattle.candidates.specs.Points.{candidates-of, close-enough, points-of};
-ghost use Rattle.candidates.specs.Near.{Alike, Looked, InOrder, least-of};
+ghost use Rattle.candidates.specs.Nearest.{EqualAmounts, Looked, InOrder, least-of};
 
 // The points are fine, or refusal 9 names this one.
 pub enum Points {
@@ -88,8 +88,8 @@ fn look(s: &[u8], c: Counts, set: Settings, i: usize, first: usize) -> Seen
         let r = roads::road(s, c, road);
         if candidate::passes(set, p, w, r) {
             passing += 1;
-            if w.distance < least {
-                least = w.distance;
+            if w.distance_m < least {
+                least = w.distance_m;
             }
         }
         k += 1;
@@ -116,10 +116,10 @@ fn order_rows(s: &[u8], c: Counts, set: Settings, i: usize, first: usize) -> Awa
         let road = w.road;
         let r = roads::road(s, c, road);
         if candidate::passes(set, p, w, r) {
-            let score = candidate::score_of(set, p, w, r);
+            let score = candidate::candidate_score(set, p, w, r);
             let x = Away {
                 score,
-                distance: w.distance,
+                distance: w.distance_m,
             };
             let mut j = count;
             'shift: while 0 < j {
@@ -158,7 +158,7 @@ fn least_of(xs: Aways, n: usize) -> f64
 // The least distance of point i's candidates. Where no more rows pass than there may be candidates, every one of them is kept and no order is needed.
 fn nearest(s: &[u8], c: Counts, set: Settings, i: usize, first: usize) -> f64
     requires { ⌜ WellFormed (now s) c × (i < c .p) × (set ≡ sheet-of (now s) c .settings) × (first ≡ rows-before (now s) i) ⌝ }
-    ensures { λ d. ⌜ Alike d (nearest (candidates-at (sheet-of (now (s .entry)) c) i)) ⌝ }
+    ensures { λ d. ⌜ EqualAmounts d (nearest (candidates-at (sheet-of (now (s .entry)) c) i)) ⌝ }
 {
     let all = look(s, c, set, i, first);
     let most = set.max_candidates as usize;

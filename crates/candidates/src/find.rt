@@ -9,7 +9,7 @@ ghost use mathlib.Core.Path.{_≡_};
 ghost use Prim.Native.Nat.{_≤_, _<_};
 ghost use Rattle.model.specs.Judge.{WellFormed};
 ghost use Rattle.model.specs.Sheet.{sheet-of};
-ghost use Rattle.candidates.specs.Found.{tried, Lists};
+ghost use Rattle.candidates.specs.Found.{tried, CandidatesOf};
 
 // How many candidates of a point a leg tries.
 pub const MOST_TRIED: usize = 10;
@@ -30,13 +30,13 @@ fn tried(n: usize) -> usize
 // What stands in a place that is not used.
 fn no_item() -> Candidate {
     Candidate {
-        road: 0,
-        distance: 0.0,
+        edge_idx: 0,
+        distance_m: 0.0,
         bearing_diff: 0.0,
         frc_diff: 0,
         fow_score: 0.0,
         score: 0.0,
-        fraction: 0.0,
+        projection_fraction: 0.0,
     }
 }
 
@@ -44,7 +44,7 @@ fn no_item() -> Candidate {
 // A full list takes a candidate only before its last, which falls out.
 pub fn find_candidates(s: &[u8], c: Counts, set: Settings, i: usize) -> Candidates
     requires { ⌜ WellFormed (now s) c × (i < c .p) × (set ≡ sheet-of (now s) c .settings) ⌝ }
-    ensures { λ xs. ⌜ Lists (sheet-of (now (s .entry)) c) c i xs ⌝ }
+    ensures { λ xs. ⌜ CandidatesOf (sheet-of (now (s .entry)) c) c i xs ⌝ }
 {
     let nothing = no_item();
     let mut items = [nothing; MOST_TRIED];

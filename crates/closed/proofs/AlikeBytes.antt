@@ -7,11 +7,11 @@ use native.Mathlib.Omega.{arith}
 use lib.ListN.{length, drop, length-drop}
 use lib.Seq.{length-take-le}
 use Rattle.model.specs.declared.Counts.{Counts}
-use Rattle.model.specs.Lists.{tab}
+use Rattle.model.specs.Lists.{tabulate}
 use Rattle.model.specs.Bytes.{section}
 use Rattle.model.specs.Layout.{counts-of, points-at, distances-at, goal-width, road-bytes}
 use Rattle.model.specs.Judge.{WellFormed}
-use Rattle.model.specs.Sheet.{settings-of, stop-of, road-of, goal-of, sheet-of, parsed, no-road, road-at}
+use Rattle.model.specs.Sheet.{settings-of, measured-point, road-of, goal-of, sheet-of, parsed, no-road, road-at}
 use Rattle.model.proofs.Members.{length-tab, getD-table}
 use Rattle.closed.specs.Closed.{is-closed, Agree, Alike}
 use Rattle.closed.proofs.AlikeSheets.{is-open, AgreeSheets, AlikeSheets}
@@ -67,8 +67,8 @@ module _ (x y : List ℕ) (wx : WellFormed x (counts-of x)) (wy : WellFormed y (
     kind = h .parts .kind;
     nodes = h .parts .nodes;
     settings = ap settings-of (h .parts .settings);
-    stops = λ i. tab (points-eq i) 0 (stop-of (h .parts .points i) (h .parts .rows i));
-    goals = λ i. tab (goals-eq i) 0 (goal-of (h .parts .distances i) (h .parts .nodes i));
+    points = λ i. tabulate (points-eq i) 0 (measured-point (h .parts .points i) (h .parts .rows i));
+    goals = λ i. tabulate (goals-eq i) 0 (goal-of (h .parts .distances i) (h .parts .nodes i));
     agree = roads-agree x y (h .agree);
     order = h .order;
   }

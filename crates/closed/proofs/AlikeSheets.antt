@@ -1,4 +1,4 @@
--- Demand 3 of parsed sheets. A road that a leg permits or a row names is not closed, so alike sheets have equal views and equal outcomes; and the roads of a course are the same on both.
+-- Demand 3 of parsed sheets. A road that a leg permits or a row names is not closed, so alike sheets have equal views and equal outcomes; and the roads of a path are the same on both.
 use Prim.Native.Nat.{ℕ, _+_, _≤_, _<_, min}
 use mathlib.Core.Path.{_≡_, refl, sym, ap, ap₂, _∙_, subst}
 use mathlib.Core.Bool.{Bool, true, false, not, _||_, cond}
@@ -16,21 +16,21 @@ use Rattle.model.specs.declared.Point.{Point}
 use Rattle.model.specs.declared.Road.{Road}
 use Rattle.model.specs.declared.AStarConstraints.{AStarConstraints}
 use Rattle.model.specs.Numbers.{f0}
-use Rattle.model.specs.Lists.{In, keep, any, all, front, head, last, pad, maybe}
-use Rattle.model.specs.Sheet.{Stop, Sheet, road-at, list-at, leaving-roads}
-use Rattle.model.specs.View.{raised, limits-of, is-slip, permits, View, spot-of, place-of, leg-of, leg-stops, distances-to, view}
-use Rattle.model.specs.Search.{Searcher, bounded-astar}
-use Rattle.model.specs.Legs.{Coverage}
-use Rattle.model.specs.Decode.{Course, Outcome, outcome}
+use Rattle.model.specs.Lists.{In, filter, any, all, init, head, last, pad, maybe}
+use Rattle.model.specs.Sheet.{MeasuredPoint, Sheet, road-at, list-at, leaving-roads}
+use Rattle.model.specs.View.{raised, limits-of, is-slip, permits, View, projection-of, projected-point, leg-of, leg-starts, distances-to, view}
+use Rattle.model.specs.Search.{Search, bounded-astar}
+use Rattle.model.specs.Legs.{EdgeCoverage}
+use Rattle.model.specs.Decode.{FullPath, Outcome, outcome}
 use Rattle.model.specs.Decode as outcomes
-use Rattle.model.specs.Ends.{Ends, ends-of, finalize-path, part-of, offset-fraction}
-use Rattle.model.specs.Call.{Lists, Lent, Match, Decoded, written, match-of, answered, roomy, untouched, decode-by, decode-sheet}
+use Rattle.model.specs.Ends.{FinalPath, final-path-of, finalize-path, part-of, offset-fraction}
+use Rattle.model.specs.Call.{Lists, Lent, Match, Decoded, written, match-of, answered, has-room, untouched, decode-by, decode-sheet}
 use Rattle.model.specs.Call as call
 use Rattle.model.proofs.Members.{all-at, any-of, keep-keep, in-keep, map-eq, keep-map, in-head, in-last, Every, every-map}
 use Rattle.model.proofs.Judging.{all-of-at}
 use Rattle.bounds.specs.Formed.{Formed}
-use Rattle.bounds.proofs.CourseRoads.{course-roads}
-use Rattle.closed.specs.Closed.{exceeds, beyond-limit, beyond-every-limit, named, is-closed, Core, refusal, match, core}
+use Rattle.bounds.proofs.PathRoads.{path-roads}
+use Rattle.closed.specs.Closed.{exceeds, beyond-limit, beyond-every-limit, named, is-closed, SharedAnswer, refusal, match, shared-answer}
 
 -- ---- alike sheets
 
@@ -46,10 +46,10 @@ pub record AlikeSheets (a b : Sheet) : Type 0 where
   pub kind : a .kind ≡ b .kind
   pub nodes : a .nodes ≡ b .nodes
   pub settings : a .settings ≡ b .settings
-  pub stops : a .stops ≡ b .stops
+  pub points : a .points ≡ b .points
   pub goals : a .goals ≡ b .goals
   pub agree : AgreeSheets a b
-  pub order : (v : ℕ) → keep (is-open a) (list-at a v) ≡ keep (is-open b) (list-at b v)
+  pub order : (v : ℕ) → filter (is-open a) (list-at a v) ≡ filter (is-open b) (list-at b v)
 
 -- ---- one sheet
 
@@ -72,7 +72,7 @@ clash c p r t e n =
     omega arith
 
 module _ (t : Sheet) where
-  abbrev constraints : Stop → AStarConstraints
+  abbrev constraints : MeasuredPoint → AStarConstraints
   constraints p = limits-of (t .settings) (p .point) .constraints
 
   module _ (i : ℕ) where
@@ -81,7 +81,7 @@ module _ (t : Sheet) where
     unfolding is-closed
     closed-away c = subst T (sym (all-of-at _ (is-true (is-closed t i) c) 0)) tt
 
-    closed-beyond : T (is-closed t i) → T (all (beyond-limit t i) (leg-stops t))
+    closed-beyond : T (is-closed t i) → T (all (beyond-limit t i) (leg-starts t))
     unfolding is-closed beyond-every-limit
     closed-beyond c = subst T (sym (all-of-at _ (is-true (is-closed t i) c) 1)) tt
 
@@ -94,69 +94,69 @@ module _ (t : Sheet) where
     open-not-closed o = is-false (is-closed t i) o
 
   -- a road that a leg permits is not closed
-  permitted-open : (p : Stop) → In p (leg-stops t) → (i : ℕ) → T (permits (constraints p) (road-at t i)) → T (is-open t i)
+  permitted-open : (p : MeasuredPoint) → In p (leg-starts t) → (i : ℕ) → T (permits (constraints p) (road-at t i)) → T (is-open t i)
   unfolding is-open
   permitted-open p m i h = not-T (is-closed t i) (λ c.
       clash (t .settings) (p .point) (road-at t i) h (all-at (beyond-limit t i) (closed-beyond i c) m) (closed-away i c))
 
   -- nor is one that a row names
-  named-open : (p : Stop) → In p (t .stops) → (w : Row) → In w (p .rows) → T (is-open t (w .road))
+  named-open : (p : MeasuredPoint) → In p (t .points) → (w : Row) → In w (p .rows) → T (is-open t (w .road))
   unfolding named is-open
   named-open p m w n = not-T (is-closed t (w .road)) (λ c. T-not (named t (w .road)) (closed-unnamed (w .road) c)
       (any-of (λ q. any (λ v. eqb (v .road) (w .road)) (q .rows)) m (any-of (λ v. eqb (v .road) (w .road)) n (eqb-refl (w .road)))))
 
   -- a leg sees no closed road at a node
-  leaving-open : (p : Stop) → In p (leg-stops t) → (v : ℕ) → keep (permits (constraints p)) (leaving-roads t v) ≡ keep (permits (constraints p)) (map (road-at t) (keep (is-open t) (list-at t v)))
+  leaving-open : (p : MeasuredPoint) → In p (leg-starts t) → (v : ℕ) → filter (permits (constraints p)) (leaving-roads t v) ≡ filter (permits (constraints p)) (map (road-at t) (filter (is-open t) (list-at t v)))
   leaving-open p m v =
       keep-map (road-at t) (permits (constraints p)) (list-at t v)
       ∙ ap (map (road-at t)) (keep-keep (λ i. permits (constraints p) (road-at t i)) (is-open t) (permitted-open p m) (list-at t v))
-      ∙ sym (keep-map (road-at t) (permits (constraints p)) (keep (is-open t) (list-at t v)))
+      ∙ sym (keep-map (road-at t) (permits (constraints p)) (filter (is-open t) (list-at t v)))
 
 -- ---- the core of an answer, by the test of the areas and the outcome
 
-abbrev core-of : Outcome → Core
-core-of (outcomes.refused n x y) = refusal n x y
-core-of (outcomes.matched k c) = match (k .total) (c .road .id) (c .metres)
+abbrev shared-answer-of : Outcome → SharedAnswer
+shared-answer-of (outcomes.refused n x y) = refusal n x y
+shared-answer-of (outcomes.matched k c) = match (k .total-length) (c .road .id) (c .coverage-m)
 
-core-answered : (t : Sheet) (l : Lists) (o : Outcome) → core (answered t l o .answer) ≡ core-of o
-unfolding core answered match-of
-core-answered t l (outcomes.refused n x y) = refl
-core-answered t l (outcomes.matched k c) = refl
+shared-answered : (t : Sheet) (l : Lists) (o : Outcome) → shared-answer (answered t l o .answer) ≡ shared-answer-of o
+unfolding shared-answer answered match-of
+shared-answered t l (outcomes.refused n x y) = refl
+shared-answered t l (outcomes.matched k c) = refl
 
-core-decode : (t : Sheet) (lent : Lent) → core (decode-sheet t lent .answer) ≡ cond (roomy (length (t .stops)) (t .nodes) lent) (core-of (outcome (view t) (bounded-astar (lent .heap)))) (refusal 6 0 0)
-unfolding decode-sheet decode-by untouched core
-core-decode t lent = go (roomy (length (t .stops)) (t .nodes) lent)
+shared-decode : (t : Sheet) (lent : Lent) → shared-answer (decode-sheet t lent .answer) ≡ cond (has-room (length (t .points)) (t .nodes) lent) (shared-answer-of (outcome (view t) (bounded-astar (lent .heap)))) (refusal 6 0 0)
+unfolding decode-sheet decode-by untouched shared-answer
+shared-decode t lent = go (has-room (length (t .points)) (t .nodes) lent)
   where
-    go : (r : Bool) → core (cond r (answered t (lent .lists) (outcome (view t) (bounded-astar (lent .heap)))) (untouched 6 0 (lent .lists)) .answer) ≡ cond r (core-of (outcome (view t) (bounded-astar (lent .heap)))) (refusal 6 0 0)
-    go true = core-answered t (lent .lists) (outcome (view t) (bounded-astar (lent .heap)))
+    go : (r : Bool) → shared-answer (cond r (answered t (lent .lists) (outcome (view t) (bounded-astar (lent .heap)))) (untouched 6 0 (lent .lists)) .answer) ≡ cond r (shared-answer-of (outcome (view t) (bounded-astar (lent .heap)))) (refusal 6 0 0)
+    go true = shared-answered t (lent .lists) (outcome (view t) (bounded-astar (lent .heap)))
     go false = refl
 
 -- ---- two sheets
 
 module _ (a b : Sheet) (form : Formed a) (h : AlikeSheets a b) where
   -- the views are equal
-  roads-eq : (v : ℕ) → map (road-at a) (keep (is-open a) (list-at a v)) ≡ map (road-at b) (keep (is-open b) (list-at b v))
+  roads-eq : (v : ℕ) → map (road-at a) (filter (is-open a) (list-at a v)) ≡ map (road-at b) (filter (is-open b) (list-at b v))
   roads-eq v =
-      map-eq (road-at a) (road-at b) (keep (is-open a) (list-at a v))
+      map-eq (road-at a) (road-at b) (filter (is-open a) (list-at a v))
       (λ i m. let k = in-keep (is-open a) (list-at a v) m in h .agree i (form .lists v i (k .0) .0) (open-not-closed a i (k .1)))
       ∙ ap (map (road-at b)) (h .order v)
 
-  leaving-eq : (p : Stop) → In p (leg-stops a) → (v : ℕ) → leg-of a p .leaving v ≡ leg-of b p .leaving v
+  leaving-eq : (p : MeasuredPoint) → In p (leg-starts a) → (v : ℕ) → leg-of a p .leaving v ≡ leg-of b p .leaving v
   unfolding limits-of
   leaving-eq p m v =
       leaving-open a p m v
-      ∙ ap₂ (λ (c : Settings) (rs : List Road). keep (permits (limits-of c (p .point) .constraints)) rs) (h .settings) (roads-eq v)
-      ∙ sym (leaving-open b p (subst (λ (ps : List Stop). In p (front ps)) (h .stops) m) v)
+      ∙ ap₂ (λ (c : Settings) (rs : List Road). filter (permits (limits-of c (p .point) .constraints)) rs) (h .settings) (roads-eq v)
+      ∙ sym (leaving-open b p (subst (λ (ps : List MeasuredPoint). In p (init ps)) (h .points) m) v)
 
-  leg-eq : (p : Stop) → In p (leg-stops a) → leg-of a p ≡ leg-of b p
+  leg-eq : (p : MeasuredPoint) → In p (leg-starts a) → leg-of a p ≡ leg-of b p
   leg-eq p m i = record { limits = limits-of (h .settings i) (p .point); leaving = λ v. leaving-eq p m v i }
 
   -- the road that a row names is the same on both
-  named-eq : (p : Stop) → In p (a .stops) → (w : Row) → In w (p .rows) → road-at a (w .road) ≡ road-at b (w .road)
+  named-eq : (p : MeasuredPoint) → In p (a .points) → (w : Row) → In w (p .rows) → road-at a (w .road) ≡ road-at b (w .road)
   named-eq p m w n = h .agree (w .road) (form .rows p m w n .road) (open-not-closed a (w .road) (named-open a p m w n))
 
-  place-eq : (p : Stop) → In p (a .stops) → place-of a p ≡ place-of b p
-  place-eq p m i = record { point = p .point; spots = map-eq (spot-of a) (spot-of b) (p .rows) (λ w n j. record { row = w; road = named-eq p m w n j }) i }
+  projected-point-eq : (p : MeasuredPoint) → In p (a .points) → projected-point a p ≡ projected-point b p
+  projected-point-eq p m i = record { point = p .point; projections = map-eq (projection-of a) (projection-of b) (p .rows) (λ w n j. record { row = w; road = named-eq p m w n j }) i }
 
   pub view-eq : view a ≡ view b
   unfolding view
@@ -164,25 +164,25 @@ module _ (a b : Sheet) (form : Formed a) (h : AlikeSheets a b) where
     kind = h .kind i;
     nodes = h .nodes i;
     settings = h .settings i;
-    places = (map-eq (place-of a) (place-of b) (a .stops) place-eq ∙ ap (map (place-of b)) (h .stops)) i;
-    legs = (map-eq (leg-of a) (leg-of b) (leg-stops a) leg-eq ∙ ap (λ (ps : List Stop). map (leg-of b) (front ps)) (h .stops)) i;
+    points = (map-eq (projected-point a) (projected-point b) (a .points) projected-point-eq ∙ ap (map (projected-point b)) (h .points)) i;
+    legs = (map-eq (leg-of a) (leg-of b) (leg-starts a) leg-eq ∙ ap (λ (ps : List MeasuredPoint). map (leg-of b) (init ps)) (h .points)) i;
     to-goal = λ g v. getD (distances-to (h .goals i) g) v f0;
   }
 
-  outcome-eq : (search : Searcher) → outcome (view a) search ≡ outcome (view b) search
+  outcome-eq : (search : Search) → outcome (view a) search ≡ outcome (view b) search
   outcome-eq search = ap (λ (v : View). outcome v search) view-eq
 
-  roomy-eq : (lent : Lent) → roomy (length (a .stops)) (a .nodes) lent ≡ roomy (length (b .stops)) (b .nodes) lent
-  roomy-eq lent = ap₂ (λ (ps : List Stop) (n : ℕ). roomy (length ps) n lent) (h .stops) (h .nodes)
+  has-room-eq : (lent : Lent) → has-room (length (a .points)) (a .nodes) lent ≡ has-room (length (b .points)) (b .nodes) lent
+  has-room-eq lent = ap₂ (λ (ps : List MeasuredPoint) (n : ℕ). has-room (length ps) n lent) (h .points) (h .nodes)
 
   -- the first half of the demand
-  pub same-core : (lent : Lent) → core (decode-sheet a lent .answer) ≡ core (decode-sheet b lent .answer)
-  same-core lent =
-      core-decode a lent
-      ∙ ap₂ (λ (r : Bool) (o : Outcome). cond r (core-of o) (refusal 6 0 0)) (roomy-eq lent) (outcome-eq (bounded-astar (lent .heap)))
-      ∙ sym (core-decode b lent)
+  pub same-shared : (lent : Lent) → shared-answer (decode-sheet a lent .answer) ≡ shared-answer (decode-sheet b lent .answer)
+  same-shared lent =
+      shared-decode a lent
+      ∙ ap₂ (λ (r : Bool) (o : Outcome). cond r (shared-answer-of o) (refusal 6 0 0)) (has-room-eq lent) (outcome-eq (bounded-astar (lent .heap)))
+      ∙ sym (shared-decode b lent)
 
-  -- ---- a matched course
+  -- ---- a matched path
 
   -- road i is the same on both
   abbrev Same : ℕ → Type 0
@@ -192,17 +192,17 @@ module _ (a b : Sheet) (form : Formed a) (h : AlikeSheets a b) where
   open-same : (i : ℕ) → i < length (a .roads) → T (is-open a i) → Same (road-at a i .number)
   open-same i m o = subst Same (sym (form .numbered i m)) (h .agree i m (open-not-closed a i o))
 
-  -- so the numbers of a matched course find the same roads
-  course-same : (slots : ℕ) (k : Course) (c : Coverage) → outcome (view a) (bounded-astar slots) ≡ outcomes.matched k c → Every Same (ends-of k .path)
+  -- so the numbers of a matched path find the same roads
+  path-same : (slots : ℕ) (k : FullPath) (c : EdgeCoverage) → outcome (view a) (bounded-astar slots) ≡ outcomes.matched k c → Every Same (final-path-of k .path)
   unfolding view limits-of
-  course-same slots k c e = every-map Same (λ (r : Road). r .number) (k .roads) (course-roads a form (λ (r : Road). Same (r .number)) record { rows = rows; ways = ways } slots k c e)
+  path-same slots k c e = every-map Same (λ (r : Road). r .number) (k .roads) (path-roads a form (λ (r : Road). Same (r .number)) record { rows = rows; ways = ways } slots k c e)
     where
-      rows : (p : Stop) → In p (a .stops) → (w : Row) → In w (p .rows) → Same (road-at a (w .road) .number)
+      rows : (p : MeasuredPoint) → In p (a .points) → (w : Row) → In w (p .rows) → Same (road-at a (w .road) .number)
       rows p m w n = open-same (w .road) (form .rows p m w n .road) (named-open a p m w n)
 
-      ways : (p : Stop) → In p (leg-stops a) → (u : ℕ) (r : Road) → In r (leg-of a p .leaving u) → Same (r .number)
+      ways : (p : MeasuredPoint) → In p (leg-starts a) → (u : ℕ) (r : Road) → In r (leg-of a p .leaving u) → Same (r .number)
       ways p m u r n =
-          every-map (λ (r : Road). Same (r .number)) (road-at a) (keep (λ i. permits (constraints a p) (road-at a i)) (list-at a u)) (λ i j.
+          every-map (λ (r : Road). Same (r .number)) (road-at a) (filter (λ i. permits (constraints a p) (road-at a i)) (list-at a u)) (λ i j.
           let k = in-keep (λ i. permits (constraints a p) (road-at a i)) (list-at a u) j in
           open-same i (form .lists u i (k .0) .0) (permitted-open a p m i (k .1)))
           r (subst (In r) (keep-map (road-at a) (permits (constraints a p)) (list-at a u)) n)
@@ -211,45 +211,45 @@ module _ (a b : Sheet) (form : Formed a) (h : AlikeSheets a b) where
   fraction-eq : (offset : Float) (path : List ℕ) (o : Option ℕ) → ((x : ℕ) → o ≡ some x → In x path) → Every Same path → offset-fraction a offset o ≡ offset-fraction b offset o
   unfolding offset-fraction maybe
   fraction-eq offset path none m s = refl
-  fraction-eq offset path (some x) m s = ap (λ (r : Road). part-of offset (r .metres)) (s x (m x refl))
+  fraction-eq offset path (some x) m s = ap (λ (r : Road). part-of offset (r .«length_m»)) (s x (m x refl))
 
-  match-eq : (k : Course) (c : Coverage) (e : Ends) → Every Same (e .path) → match-of a k c e ≡ match-of b k c e
+  match-eq : (k : FullPath) (c : EdgeCoverage) (e : FinalPath) → Every Same (e .path) → match-of a k c e ≡ match-of b k c e
   unfolding match-of
   match-eq k c e s i = record {
     count = length (e .path);
-    length-m = k .total;
+    length-m = k .total-length;
     start-offset = e .start-offset;
     start-fraction = fraction-eq (e .start-offset) (e .path) (head (e .path)) (in-head (e .path)) s i;
     end-offset = e .end-offset;
     end-fraction = fraction-eq (e .end-offset) (e .path) (last (e .path)) (in-last (e .path)) s i;
     primary = c .road .id;
-    coverage = c .metres;
+    coverage = c .coverage-m;
   }
 
   written-eq : (path : List ℕ) (l : Lists) → Every Same path → written a path l ≡ written b path l
   unfolding written
   written-eq path l s i = record {
     ids = pad (length (l .ids)) 0 (map-eq (λ r. road-at a r .id) (λ r. road-at b r .id) path (λ x m j. s x m j .id) i);
-    lengths = pad (length (l .lengths)) f0 (map-eq (λ r. road-at a r .metres) (λ r. road-at b r .metres) path (λ x m j. s x m j .metres) i);
+    lengths = pad (length (l .lengths)) f0 (map-eq (λ r. road-at a r .«length_m») (λ r. road-at b r .«length_m») path (λ x m j. s x m j .«length_m») i);
   }
 
-  -- ---- the whole answer, where no end of a course moves on either sheet
+  -- ---- the whole answer, where no end of a path moves on either sheet
 
-  module _ (still-a : (k : Course) → finalize-path a k ≡ ends-of k) (still-b : (k : Course) → finalize-path b k ≡ ends-of k) where
+  module _ (still-a : (k : FullPath) → finalize-path a k ≡ final-path-of k) (still-b : (k : FullPath) → finalize-path b k ≡ final-path-of k) where
     answered-eq : (slots : ℕ) (l : Lists) (o : Outcome) → outcome (view a) (bounded-astar slots) ≡ o → answered a l o ≡ answered b l o
     unfolding answered written
     answered-eq slots l (outcomes.refused n x y) e = refl
     answered-eq slots l (outcomes.matched k c) e =
-        let same = course-same slots k c e in
+        let same = path-same slots k c e in
         ap (from a) (still-a k)
-        ∙ ap₂ (λ (m : Match) (w : Lists). record { answer = call.matched m; lists = w }) (match-eq k c (ends-of k) same) (written-eq (ends-of k .path) l same)
+        ∙ ap₂ (λ (m : Match) (w : Lists). record { answer = call.matched m; lists = w }) (match-eq k c (final-path-of k) same) (written-eq (final-path-of k .path) l same)
         ∙ sym (ap (from b) (still-b k))
       where
-        from : Sheet → Ends → Decoded
+        from : Sheet → FinalPath → Decoded
         from t e = record { answer = call.matched (match-of t k c e); lists = written t (e .path) l }
 
     -- the second half
     pub same-whole : (lent : Lent) → decode-sheet a lent ≡ decode-sheet b lent
     unfolding decode-sheet decode-by
-    same-whole lent = ap₂ (λ (r : Bool) (d : Decoded). cond r d (untouched 6 0 (lent .lists))) (roomy-eq lent)
+    same-whole lent = ap₂ (λ (r : Bool) (d : Decoded). cond r d (untouched 6 0 (lent .lists))) (has-room-eq lent)
         (answered-eq (lent .heap) (lent .lists) (outcome (view a) (bounded-astar (lent .heap))) refl ∙ ap (answered b (lent .lists)) (outcome-eq (bounded-astar (lent .heap))))

@@ -17,8 +17,8 @@ use Rattle.model.proofs.Members.{all-at}
 use Rattle.model.proofs.Judging.{well-formed}
 use Rattle.bounds.proofs.FormedProof.{formed}
 use Rattle.bounds.proofs.Still.{finalize-plain}
-use Rattle.closed.specs.Closed.{core, no-zero-length, Demand3}
-use Rattle.closed.proofs.AlikeSheets.{same-core, same-whole}
+use Rattle.closed.specs.Closed.{shared-answer, no-zero-length, Demand3}
+use Rattle.closed.proofs.AlikeSheets.{same-shared, same-whole}
 use Rattle.closed.proofs.AlikeBytes.{alike-sheets}
 
 -- a well-formed sheet is decoded
@@ -27,16 +27,16 @@ unfolding decode after-judging
 decode-fine s lent e = rw (e, after-judging)
 
 -- no road of it has length 0
-road-not-zero : (t : Sheet) → no-zero-length t ≡ true → (r : Road) → In r (t .roads) → T (not (eq (r .metres) f0))
+road-not-zero : (t : Sheet) → no-zero-length t ≡ true → (r : Road) → In r (t .roads) → T (not (eq (r .«length_m») f0))
 unfolding no-zero-length
-road-not-zero t e r m = all-at (λ r. not (eq (r .metres) f0)) (subst T (sym e) tt) m
+road-not-zero t e r m = all-at (λ r. not (eq (r .«length_m») f0)) (subst T (sym e) tt) m
 
 -- the demand
 pub demand3 : Demand3
 demand3 x y fx fy h lent =
     let alike = alike-sheets x y (well-formed x fx) (well-formed y fy) h in
     record {
-      same-core = ap (λ (d : Decoded). core (d .answer)) (decode-fine x lent fx) ∙ same-core (parsed x) (parsed y) (formed x fx) alike lent ∙ sym (ap (λ (d : Decoded). core (d .answer)) (decode-fine y lent fy));
+      same-core = ap (λ (d : Decoded). shared-answer (d .answer)) (decode-fine x lent fx) ∙ same-shared (parsed x) (parsed y) (formed x fx) alike lent ∙ sym (ap (λ (d : Decoded). shared-answer (d .answer)) (decode-fine y lent fy));
       same-whole = λ off zx zy.
           decode-fine x lent fx
           ∙ same-whole (parsed x) (parsed y) (formed x fx) alike

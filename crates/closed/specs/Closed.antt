@@ -7,12 +7,12 @@ use lib.Dec.{eqb, ltb}
 use lib.Ieee.{Float, eq}
 use Rattle.model.specs.declared.Judged.the-variants.{Fine}
 use Rattle.model.specs.Numbers.{f0}
-use Rattle.model.specs.Lists.{keep, any, all}
+use Rattle.model.specs.Lists.{filter, any, all}
 use Rattle.model.specs.Table.{all-of}
 use Rattle.model.specs.Layout.{counts-of, settings-bytes, points-bytes, road-bytes, rows-bytes, distances-bytes}
 use Rattle.model.specs.Judge.{judged}
-use Rattle.model.specs.Sheet.{Stop, Sheet, parsed, road-at, list-at}
-use Rattle.model.specs.View.{is-slip, leg-stops}
+use Rattle.model.specs.Sheet.{MeasuredPoint, Sheet, parsed, road-at, list-at}
+use Rattle.model.specs.View.{is-slip, leg-starts}
 use Rattle.model.specs.Call.{Lent, Answer, refused, matched, decode}
 
 -- ---- closed roads
@@ -22,15 +22,15 @@ unfoldable pub exceeds : ℕ → ℕ → ℕ → Bool
 exceeds tolerance limit class = not (eqb limit 255) && ltb (limit + tolerance) class
 
 -- road i's class number exceeds the class limit of the leg from p
-abbrev pub beyond-limit : Sheet → ℕ → Stop → Bool
+abbrev pub beyond-limit : Sheet → ℕ → MeasuredPoint → Bool
 beyond-limit t i p = exceeds (t .settings .«frc_tolerance») (p .point .limit) (road-at t i .frc)
 
 unfoldable pub beyond-every-limit : Sheet → ℕ → Bool
-beyond-every-limit t i = all (beyond-limit t i) (leg-stops t)
+beyond-every-limit t i = all (beyond-limit t i) (leg-starts t)
 
 -- a measured projection names road i
 unfoldable pub named : Sheet → ℕ → Bool
-named t i = any (λ p. any (λ w. eqb (w .road) i) (p .rows)) (t .stops)
+named t i = any (λ p. any (λ w. eqb (w .road) i) (p .rows)) (t .points)
 
 -- A rule of closing: which roads of a sheet are closed.
 abbrev pub Closing : Type 0
@@ -61,7 +61,7 @@ Agree closed x y = (i : ℕ) → i < counts-of x .e → closed (parsed x) i ≡ 
 
 -- the numbers of the roads that leave node v and are not closed, in list order
 abbrev pub open-at : Closing → List ℕ → ℕ → List ℕ
-open-at closed x v = keep (λ i. not (closed (parsed x) i)) (list-at (parsed x) v)
+open-at closed x v = filter (λ i. not (closed (parsed x) i)) (list-at (parsed x) v)
 
 -- Alike by a rule of closing: equal parts; the roads not closed agree, also in their order at each node.
 pub record AlikeBy (closed : Closing) (x y : List ℕ) : Type 0 where
@@ -76,20 +76,20 @@ Alike x y = AlikeBy is-closed x y
 -- ---- the demand
 
 -- What never depends on closed roads: a refusal with its places, or length, primary road and coverage.
-pub data Core : Type 0 where
-  refusal : ℕ → ℕ → ℕ → Core
-  match : Float → ℕ → Float → Core
+pub data SharedAnswer : Type 0 where
+  refusal : ℕ → ℕ → ℕ → SharedAnswer
+  match : Float → ℕ → Float → SharedAnswer
 
-unfoldable pub core : Answer → Core
-core (refused number a b) = refusal number a b
-core (matched m) = match (m .length-m) (m .primary) (m .coverage)
+unfoldable pub shared-answer : Answer → SharedAnswer
+shared-answer (refused number a b) = refusal number a b
+shared-answer (matched m) = match (m .length-m) (m .primary) (m .coverage)
 
 unfoldable pub no-zero-length : Sheet → Bool
-no-zero-length t = all (λ r. not (eq (r .metres) f0)) (t .roads)
+no-zero-length t = all (λ r. not (eq (r .«length_m») f0)) (t .roads)
 
 -- With snapping off and no road of length 0 on either sheet, the whole answer and both lists.
 pub record Powerless (x y : List ℕ) (lent : Lent) : Type 0 where
-  pub same-core : core (decode x lent .answer) ≡ core (decode y lent .answer)
+  pub same-core : shared-answer (decode x lent .answer) ≡ shared-answer (decode y lent .answer)
   pub same-whole : parsed x .settings .«snap_to_valid_nodes» ≡ false → no-zero-length (parsed x) ≡ true → no-zero-length (parsed y) ≡ true → decode x lent ≡ decode y lent
 
 abbrev pub Demand3 : Type 0

@@ -1,3 +1,3 @@
 pub mod Likeness
-pub mod SharpProof
-pub mod SharpPartsProof
+pub mod NeededProof
+pub mod PartsNeededProof

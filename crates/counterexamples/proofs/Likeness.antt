@@ -7,15 +7,15 @@ use native.Mathlib.Omega.{arith}
 use lib.Dec.{T, eqb, leb, ltb, eqb→eq, leb→le, ltb→lt, nltb→le}
 use lib.ListN.{getD, List·getD-eq-default}
 use lib.Ieee.Fits.{and-l, and-r}
-use Rattle.model.specs.Lists.{keep, all, tab}
+use Rattle.model.specs.Lists.{filter, all, tabulate}
 use Rattle.model.specs.Layout.{counts-of, road-bytes}
 use Rattle.model.specs.Candidates.{same-bytes}
 use Rattle.model.specs.Sheet.{part, sheet-of, parsed}
 use Rattle.model.proofs.Computes.{computes}
 use Rattle.model.proofs.Members.{all-at, length-tab, getD-table, tab-in}
-use Rattle.closed.specs.Closed.{exceeds, beyond-every-limit, named, Closing, is-closed, EqualParts, Agree, open-at, AlikeBy, core, no-zero-length}
-use Rattle.counterexamples.specs.Sharp.{AnyOrder, AnyBytes, AnyNumbers}
-use Rattle.counterexamples.specs.SharpParts.{parts-of, others, AlikeBut}
+use Rattle.closed.specs.Closed.{exceeds, beyond-every-limit, named, Closing, is-closed, EqualParts, Agree, open-at, AlikeBy, shared-answer, no-zero-length}
+use Rattle.counterexamples.specs.Needed.{AnyOrder, AnyBytes, AnyNumbers}
+use Rattle.counterexamples.specs.PartsNeeded.{parts-of, others, AlikeBut}
 
 -- ---- the roads
 
@@ -43,7 +43,7 @@ same-all→eq (x ∷ xs) (y ∷ ys) t = ap₂ (λ (z : List ℕ) (zs : List (Lis
 
 -- a test of all numbers below n
 abbrev pub below : ℕ → (ℕ → Bool) → Bool
-below n p = all p (tab n 0 (λ i. i))
+below n p = all p (tabulate n 0 (λ i. i))
 
 at-below : (n : ℕ) (p : ℕ → Bool) → T (below n p) → (i : ℕ) → i < n → T (p i)
 at-below n p t i h = let e : 0 + i ≡ i = omega arith in subst (λ (k : ℕ). T (p k)) e (all-at p t (tab-in n 0 (λ i. i) i h))
@@ -70,11 +70,11 @@ module _ (closed : Closing) (x y : List ℕ) where
 
 -- past the nodes there are no lists
 none-past : (closed : Closing) (x : List ℕ) (v : ℕ) → counts-of x .n ≤ v → open-at closed x v ≡ []
-unfolding keep sheet-of
-none-past closed x v h = ap (keep (λ i. not (closed (parsed x) i))) (List·getD-eq-default (parsed x .lists) [] {n = v} (omega (arith, length-tab (counts-of x .n) 0 (part x (counts-of x)))))
+unfolding filter sheet-of
+none-past closed x v h = ap (filter (λ i. not (closed (parsed x) i))) (List·getD-eq-default (parsed x .lists) [] {n = v} (omega (arith, length-tab (counts-of x .n) 0 (part x (counts-of x)))))
 
 -- two functions of a node that are equal at n nodes and past them
-module _ {A : Type 0} (n : ℕ) (f g : ℕ → List A) (e : tab n 0 f ≡ tab n 0 g) (past-nodes : (v : ℕ) → n ≤ v → f v ≡ g v) where
+module _ {A : Type 0} (n : ℕ) (f g : ℕ → List A) (e : tabulate n 0 f ≡ tabulate n 0 g) (past-nodes : (v : ℕ) → n ≤ v → f v ≡ g v) where
   each-node : (v : ℕ) → f v ≡ g v
   each-node v = by (ltb v n) refl
     where
@@ -84,7 +84,7 @@ module _ {A : Type 0} (n : ℕ) (f g : ℕ → List A) (e : tab n 0 f ≡ tab n 
 
 -- the order is the same at n nodes, and neither sheet has more
 module _ (closed : Closing) (x y : List ℕ) (n : ℕ) (most-x : counts-of x .n ≤ n) (most-y : counts-of y .n ≤ n) where
-  pub order : T (same-all (tab n 0 (open-at closed x)) (tab n 0 (open-at closed y))) → (v : ℕ) → open-at closed x v ≡ open-at closed y v
+  pub order : T (same-all (tabulate n 0 (open-at closed x)) (tabulate n 0 (open-at closed y))) → (v : ℕ) → open-at closed x v ≡ open-at closed y v
   order o = each-node n (open-at closed x) (open-at closed y) (same-all→eq _ _ o) (λ v h. none-past closed x v (omega arith) ∙ sym (none-past closed y v (omega arith)))
 
 -- ---- likeness
@@ -104,13 +104,13 @@ module _ (x y : List ℕ) (e : T (same-all (parts-of x) (parts-of y))) where
   fewer = omega (arith, equal-parts x y e .nodes)
 
   pub alike-by : (closed : Closing) → T (below (counts-of x .e) (agree-at closed x y)) → T (below (counts-of y .e) (agree-at closed y x))
-      → T (same-all (tab (counts-of x .n) 0 (open-at closed x)) (tab (counts-of x .n) 0 (open-at closed y))) → AlikeBy closed x y
+      → T (same-all (tabulate (counts-of x .n) 0 (open-at closed x)) (tabulate (counts-of x .n) 0 (open-at closed y))) → AlikeBy closed x y
   alike-by closed a b o = record { parts = equal-parts x y e; agree = agree closed x y a; agree-back = agree closed y x b; order = order closed x y (counts-of x .n) (omega arith) fewer o }
 
   pub any-order : T (below (counts-of x .e) (agree-at is-closed x y)) → T (below (counts-of y .e) (agree-at is-closed y x)) → AnyOrder x y
   any-order a b = (equal-parts x y e, agree is-closed x y a, agree is-closed y x b)
 
-  pub any-bytes : T (same-all (tab (counts-of x .n) 0 (open-at is-closed x)) (tab (counts-of x .n) 0 (open-at is-closed y))) → AnyBytes x y
+  pub any-bytes : T (same-all (tabulate (counts-of x .n) 0 (open-at is-closed x)) (tabulate (counts-of x .n) 0 (open-at is-closed y))) → AnyBytes x y
   any-bytes o = (equal-parts x y e, order is-closed x y (counts-of x .n) (omega arith) fewer o)
 
   -- the bytes of the roads that leave a node and are not closed
@@ -120,16 +120,16 @@ module _ (x y : List ℕ) (e : T (same-all (parts-of x) (parts-of y))) where
   bytes-past : (s : List ℕ) (v : ℕ) → counts-of s .n ≤ v → bytes-at s v ≡ []
   bytes-past s v h = ap (map (road-bytes s (counts-of s))) (none-past is-closed s v h)
 
-  pub any-numbers : tab (counts-of x .n) 0 (bytes-at x) ≡ tab (counts-of x .n) 0 (bytes-at y) → AnyNumbers x y
+  pub any-numbers : tabulate (counts-of x .n) 0 (bytes-at x) ≡ tabulate (counts-of x .n) 0 (bytes-at y) → AnyNumbers x y
   any-numbers o = (equal-parts x y e, each-node (counts-of x .n) (bytes-at x) (bytes-at y) o (λ v h. bytes-past x v h ∙ sym (bytes-past y v (omega (arith, fewer)))))
 
 -- a part is left out, and there are up to n nodes
 module _ (k n : ℕ) (x y : List ℕ) (most-x : T (leb (counts-of x .n) n)) (most-y : T (leb (counts-of y .n) n)) where
   pub alike-but : T (same-all (others k x) (others k y)) → T (below (counts-of x .e) (agree-at is-closed x y)) → T (below (counts-of y .e) (agree-at is-closed y x))
-      → T (same-all (tab n 0 (open-at is-closed x)) (tab n 0 (open-at is-closed y))) → AlikeBut k x y
+      → T (same-all (tabulate n 0 (open-at is-closed x)) (tabulate n 0 (open-at is-closed y))) → AlikeBut k x y
   alike-but e a b o = record { parts = same-all→eq _ _ e; agree = agree is-closed x y a; agree-back = agree is-closed y x b; order = order is-closed x y n (leb→le (counts-of x .n) n most-x) (leb→le (counts-of y .n) n most-y) o }
 
 -- all that an example of it unfolds
 unfoldable pub computes-likeness : Unit {0}
-unfolding computes exceeds beyond-every-limit named is-closed core no-zero-length same-all agree-at
+unfolding computes exceeds beyond-every-limit named is-closed shared-answer no-zero-length same-all agree-at
 computes-likeness = tt

@@ -1,2 +1,2 @@
-pub mod Sharp
-pub mod SharpParts
+pub mod Needed
+pub mod PartsNeeded

@@ -12,41 +12,41 @@ use lib.Ieee.{Float, nan}
 use Rattle.model.specs.Numbers.{_⊕_}
 use Rattle.model.specs.Lists.{fold}
 use Rattle.model.specs.Sheet.{Sheet}
-use Rattle.model.specs.Legs.{Coverage}
+use Rattle.model.specs.Legs as legs
 use Rattle.model.specs.Decode.{same-number, cover}
 use Rattle.model.proofs.Members.{length-tab, getD-table}
 use Rattle.bounds.proofs.Choices.{same-or-other}
 use Rattle.candidates.proofs.Folds.{fold-one-more}
 use Rattle.search.proofs.Tables.{table-set, table-more}
-use Rattle.courses.specs.declared.Cover.{Cover}
-use Rattle.search.specs.Answers.{Numbers}
+use Rattle.courses.specs.declared.EdgeCoverage.{EdgeCoverage}
+use Rattle.search.specs.Answers.{RoadNumbers}
 use Rattle.courses.specs.Left.{coverage-of, Numbered, Place, coverages-at, cover-with, cover-all}
 
 -- ---- a list
 
-abbrev number : Coverage → ℕ
+abbrev number : legs.EdgeCoverage → ℕ
 number x = x .road .number
 
-abbrev grown : Coverage → Coverage → Coverage
-grown x k = record { road = x .road; metres = x .metres ⊕ k .metres }
+abbrev grown : legs.EdgeCoverage → legs.EdgeCoverage → legs.EdgeCoverage
+grown x k = record { road = x .road; coverage-m = x .coverage-m ⊕ k .coverage-m }
 
-module _ (k d : Coverage) where
+module _ (k d : legs.EdgeCoverage) where
   -- entry i is the first one with the road of k
-  cover-here : (xs : List Coverage) (i : ℕ) → i < length xs → number (getD xs i d) ≡ number k → ((j : ℕ) → j < i → number (getD xs j d) ≢ number k) → set xs i (grown (getD xs i d) k) ≡ cover xs k
+  cover-here : (xs : List legs.EdgeCoverage) (i : ℕ) → i < length xs → number (getD xs i d) ≡ number k → ((j : ℕ) → j < i → number (getD xs j d) ≢ number k) → set xs i (grown (getD xs i d) k) ≡ cover xs k
   unfolding cover same-number
   cover-here [] i h is others = absurd (omega arith)
   cover-here (x ∷ xs) zero h is others = rw (eq-eqb (number x) (number k) is)
   cover-here (x ∷ xs) (suc i) h is others =
       rw (ne-eqb (number x) (number k) (others 0 (omega arith)))
-      (ap (λ (ys : List Coverage). x ∷ ys) (cover-here xs i (omega arith) is (λ j l. others (suc j) (omega arith))))
+      (ap (λ (ys : List legs.EdgeCoverage). x ∷ ys) (cover-here xs i (omega arith) is (λ j l. others (suc j) (omega arith))))
 
   -- no entry has it
-  cover-new : (xs : List Coverage) → ((j : ℕ) → j < length xs → number (getD xs j d) ≢ number k) → xs ++ k ∷ [] ≡ cover xs k
+  cover-new : (xs : List legs.EdgeCoverage) → ((j : ℕ) → j < length xs → number (getD xs j d) ≢ number k) → xs ++ k ∷ [] ≡ cover xs k
   unfolding cover same-number
   cover-new [] others = refl
   cover-new (x ∷ xs) others =
       rw (ne-eqb (number x) (number k) (others 0 (omega arith)))
-      (ap (λ (ys : List Coverage). x ∷ ys) (cover-new xs (λ j l. others (suc j) (omega arith))))
+      (ap (λ (ys : List legs.EdgeCoverage). x ∷ ys) (cover-new xs (λ j l. others (suc j) (omega arith))))
 
 -- ---- the areas
 
@@ -57,29 +57,29 @@ Unlike covered road i = (j : ℕ) → j < i → getD covered j 0 ≢ road
 pub unlike-more : (covered : List ℕ) (road i : ℕ) → Unlike covered road i → getD covered i 0 ≢ road → Unlike covered road (i + 1)
 unlike-more covered road i before this j h = elim (same-or-other j i) [ inl is ↦ rw is this | inr other ↦ before j (omega arith) ]
 
-abbrev entry : Sheet → List ℕ → List Float → ℕ → Coverage
-entry t covered coverage j = coverage-of t record { road = getD covered j 0; metres = getD coverage j nan }
+abbrev entry : Sheet → List ℕ → List Float → ℕ → legs.EdgeCoverage
+entry t covered coverage j = coverage-of t record { «edge_idx» = getD covered j 0; «coverage_m» = getD coverage j nan }
 
-module _ (covered : List ℕ) (coverage : List Float) (n : ℕ) (k : Cover) where
-  pub below-more : (e : ℕ) → n < length covered → Numbers e n covered → k .road < e → Numbers e (n + 1) (set covered n (k .road))
+module _ (covered : List ℕ) (coverage : List Float) (n : ℕ) (k : EdgeCoverage) where
+  pub below-more : (e : ℕ) → n < length covered → RoadNumbers e n covered → k .«edge_idx» < e → RoadNumbers e (n + 1) (set covered n (k .«edge_idx»))
   below-more e room below known j h = elim (same-or-other j n) [
-    | inl is ↦ rw (is, getD-set-same covered n (k .road) 0 room) known
-    | inr other ↦ rw (getD-set-other covered n j (k .road) 0 other) (below j (omega arith))
+    | inl is ↦ rw (is, getD-set-same covered n (k .«edge_idx») 0 room) known
+    | inr other ↦ rw (getD-set-other covered n j (k .«edge_idx») 0 other) (below j (omega arith))
   ]
 
   module _ (t : Sheet) where
-    last-entry : n < length covered → n < length coverage → coverages-at t (n + 1) (set covered n (k .road)) (set coverage n (k .metres)) ≡ coverages-at t n covered coverage ++ coverage-of t k ∷ []
+    last-entry : n < length covered → n < length coverage → coverages-at t (n + 1) (set covered n (k .«edge_idx»)) (set coverage n (k .«coverage_m»)) ≡ coverages-at t n covered coverage ++ coverage-of t k ∷ []
     unfolding coverages-at
     last-entry a b =
-        table-more n (entry t covered coverage) (entry t (set covered n (k .road)) (set coverage n (k .metres))) (coverage-of t k)
-        (rw (getD-set-same covered n (k .road) 0 a, getD-set-same coverage n (k .metres) nan b))
-        (λ j h. let other : j ≢ n = λ e. omega arith in rw (getD-set-other covered n j (k .road) 0 other, getD-set-other coverage n j (k .metres) nan other))
+        table-more n (entry t covered coverage) (entry t (set covered n (k .«edge_idx»)) (set coverage n (k .«coverage_m»))) (coverage-of t k)
+        (rw (getD-set-same covered n (k .«edge_idx») 0 a, getD-set-same coverage n (k .«coverage_m») nan b))
+        (λ j h. let other : j ≢ n = λ e. omega arith in rw (getD-set-other covered n j (k .«edge_idx») 0 other, getD-set-other coverage n j (k .«coverage_m») nan other))
 
-    pub listed : n < length covered → n < length coverage → coverages-at t (n + 1) (set covered n (k .road)) (set coverage n (k .metres)) ≡ cover-with false (coverages-at t n covered coverage) (coverage-of t k)
+    pub listed : n < length covered → n < length coverage → coverages-at t (n + 1) (set covered n (k .«edge_idx»)) (set coverage n (k .«coverage_m»)) ≡ cover-with false (coverages-at t n covered coverage) (coverage-of t k)
     unfolding cover-with
     listed a b = last-entry a b
 
-    module _ (e : ℕ) (own : Numbered t e) (below : Numbers e n covered) (known : k .road < e) (i : ℕ) (place : Place covered n (k .road) i) where
+    module _ (e : ℕ) (own : Numbered t e) (below : RoadNumbers e n covered) (known : k .«edge_idx» < e) (i : ℕ) (place : Place covered n (k .«edge_idx») i) where
       size : length (coverages-at t n covered coverage) ≡ n
       unfolding coverages-at
       size = length-tab n 0 (entry t covered coverage)
@@ -92,36 +92,36 @@ module _ (covered : List ℕ) (coverage : List Float) (n : ℕ) (k : Cover) wher
       number-is j h = ap number (entry-is j h) ∙ own (getD covered j 0) (below j h)
 
       unlike : (j : ℕ) → j < i → number (getD (coverages-at t n covered coverage) j (coverage-of t k)) ≢ number (coverage-of t k)
-      unlike j h is = place .before j h (sym (number-is j (let w = place .within in omega arith)) ∙ is ∙ own (k .road) known)
+      unlike j h is = place .before j h (sym (number-is j (let w = place .within in omega arith)) ∙ is ∙ own (k .«edge_idx») known)
 
-      pub summed : i < n → n ≤ length coverage → coverages-at t n covered (set coverage i (getD coverage i nan ⊕ k .metres)) ≡ cover-with true (coverages-at t n covered coverage) (coverage-of t k)
+      pub summed : i < n → n ≤ length coverage → coverages-at t n covered (set coverage i (getD coverage i nan ⊕ k .«coverage_m»)) ≡ cover-with true (coverages-at t n covered coverage) (coverage-of t k)
       unfolding cover-with coverages-at
       summed h room =
-          let sum = getD coverage i nan ⊕ k .metres in
+          let sum = getD coverage i nan ⊕ k .«coverage_m» in
           table-set n (entry t covered coverage) (entry t covered (set coverage i sum)) i (grown (entry t covered coverage i) (coverage-of t k)) h
           (rw (getD-set-same coverage i sum nan (omega arith)))
           (λ j other. rw (getD-set-other coverage i j sum nan other))
-          ∙ ap (λ (x : Coverage). set (coverages-at t n covered coverage) i (grown x (coverage-of t k))) (sym (entry-is i h))
-          ∙ cover-here (coverage-of t k) (coverage-of t k) (coverages-at t n covered coverage) i (rw size h) (number-is i h ∙ place .here h ∙ sym (own (k .road) known)) unlike
+          ∙ ap (λ (x : legs.EdgeCoverage). set (coverages-at t n covered coverage) i (grown x (coverage-of t k))) (sym (entry-is i h))
+          ∙ cover-here (coverage-of t k) (coverage-of t k) (coverages-at t n covered coverage) i (rw size h) (number-is i h ∙ place .here h ∙ sym (own (k .«edge_idx») known)) unlike
 
-      pub summed-new : n ≤ i → n < length covered → n < length coverage → coverages-at t (n + 1) (set covered n (k .road)) (set coverage n (k .metres)) ≡ cover-with true (coverages-at t n covered coverage) (coverage-of t k)
+      pub summed-new : n ≤ i → n < length covered → n < length coverage → coverages-at t (n + 1) (set covered n (k .«edge_idx»)) (set coverage n (k .«coverage_m»)) ≡ cover-with true (coverages-at t n covered coverage) (coverage-of t k)
       unfolding cover-with
       summed-new h a b = last-entry a b ∙ cover-new (coverage-of t k) (coverage-of t k) (coverages-at t n covered coverage) (λ j l. unlike j (omega (arith, size)))
 
 -- ---- the coverages cs of a leg, from ks on
 
-one-by-one : (ks cs : List Coverage) → fold (cover-with false) ks cs ≡ ks ++ cs
+one-by-one : (ks cs : List legs.EdgeCoverage) → fold (cover-with false) ks cs ≡ ks ++ cs
 unfolding fold cover-with
 one-by-one ks [] = sym (append-nil ks)
 one-by-one ks (x ∷ cs) = one-by-one (ks ++ x ∷ []) cs ∙ append-snoc ks x cs
 
-all-covered : (b : Bool) (ks cs : List Coverage) → fold (cover-with b) ks cs ≡ cover-all b ks cs
+all-covered : (b : Bool) (ks cs : List legs.EdgeCoverage) → fold (cover-with b) ks cs ≡ cover-all b ks cs
 unfolding cover-all cover-with
 all-covered true ks cs = refl
 all-covered false ks cs = one-by-one ks cs
 
-module _ (b : Bool) (ks cs : List Coverage) (j : ℕ) (now : List Coverage) (is : now ≡ fold (cover-with b) ks (take j cs)) where
-  pub covered-more : (k : Coverage) (next : List Coverage) → j < length cs → ((d : Coverage) → k ≡ getD cs j d) → next ≡ cover-with b now k → next ≡ fold (cover-with b) ks (take (j + 1) cs)
+module _ (b : Bool) (ks cs : List legs.EdgeCoverage) (j : ℕ) (now : List legs.EdgeCoverage) (is : now ≡ fold (cover-with b) ks (take j cs)) where
+  pub covered-more : (k : legs.EdgeCoverage) (next : List legs.EdgeCoverage) → j < length cs → ((d : legs.EdgeCoverage) → k ≡ getD cs j d) → next ≡ cover-with b now k → next ≡ fold (cover-with b) ks (take (j + 1) cs)
   covered-more k next h this step = step ∙ rw (is, this k) (sym (fold-one-more (cover-with b) ks cs j k h))
 
   pub covered-all : length cs ≤ j → now ≡ cover-all b ks cs

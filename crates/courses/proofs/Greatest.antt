@@ -8,9 +8,9 @@ use native.Mathlib.Omega.{arith}
 use lib.ListN.{getD}
 use lib.Ieee.{Float, nan}
 use Rattle.model.specs.Numbers.{_<ᶠ_}
-use Rattle.model.specs.Lists.{fold, tab}
+use Rattle.model.specs.Lists.{fold, tabulate}
 use Rattle.model.specs.Sheet.{Sheet}
-use Rattle.model.specs.Legs.{Coverage}
+use Rattle.model.specs.Legs.{EdgeCoverage}
 use Rattle.model.specs.Decode.{greater, primary-edge}
 use Rattle.search.proofs.Tables.{tab-next, tab-none}
 use Rattle.courses.specs.Left.{coverage-of, coverages-at}
@@ -23,25 +23,25 @@ pub first-stays : {b : Bool} (j best : ℕ) → b ≡ false → best ≡ cond b 
 first-stays j best e = rw e
 
 pub no-primary : (t : Sheet) (n : ℕ) (covered : List ℕ) (coverage : List Float) → n ≡ 0 → none ≡ primary-edge (coverages-at t n covered coverage)
-unfolding coverages-at tab primary-edge
+unfolding coverages-at tabulate primary-edge
 no-primary t n covered coverage e = rw e
 
 module _ (covered : List ℕ) (coverage : List Float) (n : ℕ) where
-  abbrev entry : Sheet → ℕ → Coverage
-  entry t j = coverage-of t record { road = getD covered j 0; metres = getD coverage j nan }
+  abbrev entry : Sheet → ℕ → EdgeCoverage
+  entry t j = coverage-of t record { «edge_idx» = getD covered j 0; «coverage_m» = getD coverage j nan }
 
   -- the greatest before j is at `best`
   pub record SoFar (best j : ℕ) : Type 0 where
     pub before : best < j
     pub within : j ≤ n
-    pub rest : (t : Sheet) → some (fold greater (entry t best) (tab (n - j) j (entry t))) ≡ primary-edge (coverages-at t n covered coverage)
+    pub rest : (t : Sheet) → some (fold greater (entry t best) (tabulate (n - j) j (entry t))) ≡ primary-edge (coverages-at t n covered coverage)
 
   pub first-best : (n ≡ 0 → ⊥) → SoFar 0 1
   unfolding coverages-at primary-edge
   first-best h = record {
     before = omega arith;
     within = omega arith;
-    rest = λ t. ap primary-edge (sym (tab-next n 0 (entry t) (omega arith))) ∙ ap (λ (m : ℕ). primary-edge (tab m 0 (entry t))) {x = n - 0} {y = n} (omega arith);
+    rest = λ t. ap primary-edge (sym (tab-next n 0 (entry t) (omega arith))) ∙ ap (λ (m : ℕ). primary-edge (tabulate m 0 (entry t))) {x = n - 0} {y = n} (omega arith);
   }
 
   module _ {best j : ℕ} (far : SoFar best j) where
@@ -59,11 +59,11 @@ module _ (covered : List ℕ) (coverage : List Float) (n : ℕ) where
       before = rw e (at-place (getD coverage best nan <ᶠ getD coverage j nan) h);
       within = omega arith;
       rest = λ t.
-          ap (λ (x : Coverage). some (fold greater x (tab (n - (j + 1)) (j + 1) (entry t)))) (ap (entry t) e ∙ sym (chosen t (getD coverage best nan <ᶠ getD coverage j nan)))
-          ∙ ap (λ (xs : List Coverage). some (fold greater (entry t best) xs)) (sym (tab-next n j (entry t) h))
+          ap (λ (x : EdgeCoverage). some (fold greater x (tabulate (n - (j + 1)) (j + 1) (entry t)))) (ap (entry t) e ∙ sym (chosen t (getD coverage best nan <ᶠ getD coverage j nan)))
+          ∙ ap (λ (xs : List EdgeCoverage). some (fold greater (entry t best) xs)) (sym (tab-next n j (entry t) h))
           ∙ far .rest t;
     }
 
     pub last-best : n ≤ j → (t : Sheet) → some (entry t best) ≡ primary-edge (coverages-at t n covered coverage)
     unfolding fold
-    last-best h t = ap (λ (xs : List Coverage). some (fold greater (entry t best) xs)) (sym (tab-none n j (entry t) h)) ∙ far .rest t
+    last-best h t = ap (λ (xs : List EdgeCoverage). some (fold greater (entry t best) xs)) (sym (tab-none n j (entry t) h)) ∙ far .rest t

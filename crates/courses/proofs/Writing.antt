@@ -11,9 +11,9 @@ use lib.Seq.{length-take-le, take-all, take-suc, append-snoc, take-append-add, t
 use borrow.Rule.Slice.PartMut.{midOf, putMid}
 use Rattle.model.specs.Lists.{last, maybe}
 use Rattle.model.proofs.Members.{last-part}
-use Rattle.rules.specs.declared.Route.{Route}
-use Rattle.rules.specs.Code.{part-of}
-use Rattle.courses.specs.Left.{numbers, size-of, numbers-of, fresh, Skips, Appended}
+use Rattle.rules.specs.declared.PathResult.{PathResult}
+use Rattle.rules.specs.Code.{terminal-of}
+use Rattle.courses.specs.Left.{coverage-numbers, size-of, numbers-of, unwritten, Skips, Appended}
 use Rattle.courses.proofs.Lookup.{numbers-long}
 
 -- ---- the last one written
@@ -24,23 +24,23 @@ last-none ids n e = rw e
 
 -- ---- the first road, skipped or not
 
-pub skip-empty : (o : Option ℕ) (xs : List ℕ) → length xs ≡ 0 → xs ≡ fresh o xs
-unfolding fresh
+pub skip-empty : (o : Option ℕ) (xs : List ℕ) → length xs ≡ 0 → xs ≡ unwritten o xs
+unfolding unwritten
 skip-empty o [] e = refl
 skip-empty o (x ∷ xs) e = absurd (omega arith)
 
-pub skip-none : (xs : List ℕ) → xs ≡ fresh none xs
-unfolding fresh maybe
+pub skip-none : (xs : List ℕ) → xs ≡ unwritten none xs
+unfolding unwritten maybe
 skip-none [] = refl
 skip-none (x ∷ xs) = refl
 
-pub skip-same : (k : ℕ) (xs : List ℕ) → 0 < length xs → k ≡ getD xs 0 0 → drop 1 xs ≡ fresh (some k) xs
-unfolding fresh maybe
+pub skip-same : (k : ℕ) (xs : List ℕ) → 0 < length xs → k ≡ getD xs 0 0 → drop 1 xs ≡ unwritten (some k) xs
+unfolding unwritten maybe
 skip-same k [] h e = absurd (omega arith)
 skip-same k (x ∷ xs) h e = rw (eq-eqb k x e)
 
-pub skip-other : (k : ℕ) (xs : List ℕ) → 0 < length xs → (k ≡ getD xs 0 0 → ⊥) → xs ≡ fresh (some k) xs
-unfolding fresh maybe
+pub skip-other : (k : ℕ) (xs : List ℕ) → 0 < length xs → (k ≡ getD xs 0 0 → ⊥) → xs ≡ unwritten (some k) xs
+unfolding unwritten maybe
 skip-other k [] h e = absurd (omega arith)
 skip-other k (x ∷ xs) h e = rw (ne-eqb k x e)
 
@@ -134,21 +134,21 @@ tail-put xs ys ns n k h e =
     ap (λ (l : List ℕ). take n xs ++ (ys ++ l)) behind ∙ ap (λ (l : List ℕ). take n xs ++ l) (append-nil ys ∙ e) ∙ ap (λ (l : List ℕ). take n xs ++ (ns ++ drop k l)) all
 
 -- the roads of a route: its first road, its middle ks and its last road
-pub leg-written : (r : Route) (ks out out₁ out₂ ys zs : List ℕ) (f k : ℕ) → length ks ≡ r .middle .count → r .middle .count + 2 ≤ length out → f ≡ length (part-of (r .head)) → f ≤ 1 → k ≡ length (part-of (r .tail)) → k ≤ 1
-    → out₁ ≡ numbers (part-of (r .head)) ++ drop f out
+pub leg-written : (r : PathResult) (ks out out₁ out₂ ys zs : List ℕ) (f k : ℕ) → length ks ≡ r .middle .count → r .middle .count + 2 ≤ length out → f ≡ length (terminal-of (r .head)) → f ≤ 1 → k ≡ length (terminal-of (r .tail)) → k ≤ 1
+    → out₁ ≡ coverage-numbers (terminal-of (r .head)) ++ drop f out
     → ys ≡ ks ++ drop (r .middle .count) (midOf f (length out₁ - f) out₁) → out₂ ≡ putMid f (length out₁ - f) out₁ ys
-    → zs ≡ numbers (part-of (r .tail)) ++ drop k (midOf (f + r .middle .count) (length out₂ - (f + r .middle .count)) out₂)
+    → zs ≡ coverage-numbers (terminal-of (r .tail)) ++ drop k (midOf (f + r .middle .count) (length out₂ - (f + r .middle .count)) out₂)
     → putMid (f + r .middle .count) (length out₂ - (f + r .middle .count)) out₂ zs ≡ numbers-of r ks ++ drop (size-of r) out
 unfolding numbers-of size-of
 leg-written r ks out out₁ out₂ ys zs f k long room first few last few-last e₁ e₂ is e₃ =
-    let a = numbers (part-of (r .head)) in
-    let d = numbers (part-of (r .tail)) in
+    let a = coverage-numbers (terminal-of (r .head)) in
+    let d = coverage-numbers (terminal-of (r .tail)) in
     let m = r .middle .count in
-    let a-long : length a ≡ f = numbers-long (part-of (r .head)) ∙ sym first in
-    let d-long : length d ≡ k = numbers-long (part-of (r .tail)) ∙ sym last in
+    let a-long : length a ≡ f = numbers-long (terminal-of (r .head)) ∙ sym first in
+    let d-long : length d ≡ k = numbers-long (terminal-of (r .tail)) ∙ sym last in
     let long₁ : length out₁ ≡ length out = omega (arith, ap length e₁, length-append a (drop f out), length-drop f out, a-long) in
     let two : out₂ ≡ take f out₁ ++ (ks ++ drop m (drop f out₁)) = is ∙ tail-put out₁ ys ks f m (omega arith) e₂ in
     let long₂ : length out₂ ≡ length out = omega (arith, ap length two, length-append (take f out₁) (ks ++ drop m (drop f out₁)), length-append ks (drop m (drop f out₁)), length-take-le f out₁ (omega arith), length-drop m (drop f out₁), length-drop f out₁) in
     three-parts out a ks d out₁ out₂ (putMid (f + m) (length out₂ - (f + m)) out₂ zs) f m k (omega arith) a-long long d-long e₁ two (tail-put out₂ zs d (f + m) k (omega arith) e₃)
     ∙ ap (λ (l : List ℕ). (a ++ l ++ d) ++ drop (f + m + k) out) (sym (take-all m ks (omega (arith, long))))
-    ∙ ap (λ (j : ℕ). (a ++ take m ks ++ d) ++ drop j out) {x = f + m + k} {y = length (part-of (r .head)) + m + length (part-of (r .tail))} (omega arith)
+    ∙ ap (λ (j : ℕ). (a ++ take m ks ++ d) ++ drop j out) {x = f + m + k} {y = length (terminal-of (r .head)) + m + length (terminal-of (r .tail))} (omega arith)

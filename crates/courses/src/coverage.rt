@@ -7,38 +7,41 @@ ghost use lib.Ieee.{nan};
 ghost use Rattle.model.specs.Numbers.{_<ᶠ_};
 ghost use Rattle.model.specs.Judge.{WellFormed};
 ghost use Rattle.model.specs.Sheet.{Sheet, sheet-of};
-ghost use Rattle.model.specs.Legs.{Coverage};
+ghost use Rattle.model.specs.Legs as legs;
 ghost use Rattle.model.specs.Decode.{primary-edge};
-ghost use Rattle.search.specs.Answers.{Numbers};
+ghost use Rattle.search.specs.Answers.{RoadNumbers};
 ghost use Rattle.courses.specs.Left.{covers, Known, coverage-of, Numbered, Place, coverages-at, cover-with, cover-all, primary-of, Within};
-use crate::Cover;
+use crate::EdgeCoverage;
 use crate::Primary;
 use crate::path;
 use model::Counts;
-use rules::Route;
+use rules::PathResult;
 use sheet::roads;
 
 // Road j of a route, with the metres that are covered of it.
-fn cover_at(s: &[u8], c: Counts, r: Route, area: &[u64], j: usize) -> Cover
+fn cover_at(s: &[u8], c: Counts, r: PathResult, area: &[u64], j: usize) -> EdgeCoverage
     requires { ⌜ WellFormed (now s) c × Known (sheet-of (now s) c) c r (now area) × (j < length (covers (sheet-of (now s) c) r (now area))) ⌝ }
-    ensures { λ k. ⌜ (k .road < c .e) × ((d : Coverage) → coverage-of (sheet-of (now (s .entry)) c) k ≡ getD (covers (sheet-of (now (s .entry)) c) r (now (area .entry))) j d) ⌝ }
+    ensures { λ k. ⌜ (k .«edge_idx» < c .e) × ((d : legs.EdgeCoverage) → coverage-of (sheet-of (now (s .entry)) c) k ≡ getD (covers (sheet-of (now (s .entry)) c) r (now (area .entry))) j d) ⌝ }
 {
     let first = path::terminals(r.head);
     if j < first {
-        return Cover {
-            road: r.head.road.number,
-            metres: r.head.metres,
+        return EdgeCoverage {
+            edge_idx: r.head.road.number,
+            coverage_m: r.head.coverage_m,
         };
     }
     let i = j - first;
     if i < r.middle.count {
         let road = area[i] as usize;
-        let metres = roads::metres(s, c, road);
-        return Cover { road, metres };
+        let metres = roads::length_m(s, c, road);
+        return EdgeCoverage {
+            edge_idx: road,
+            coverage_m: metres,
+        };
     }
-    Cover {
-        road: r.tail.road.number,
-        metres: r.tail.metres,
+    EdgeCoverage {
+        edge_idx: r.tail.road.number,
+        coverage_m: r.tail.coverage_m,
     }
 }
 
@@ -58,21 +61,27 @@ fn find(covered: &[usize], n: usize, road: usize) -> usize
 }
 
 // One coverage behind the n that are there, or in the sum of its road: how many there are.
-fn cover_one(summed: bool, covered: &mut [usize], coverage: &mut [f64], n: usize, k: Cover) -> usize
+fn cover_one(
+    summed: bool,
+    covered: &mut [usize],
+    coverage: &mut [f64],
+    n: usize,
+    k: EdgeCoverage,
+) -> usize
     requires { ⌜ (n < length (now covered)) × (n < length (now coverage)) ⌝ }
-    ensures { λ m. ⌜ (m ≤ n + 1) × ((t : Sheet) (e : ℕ) → Numbered t e → Numbers e n (now (covered .entry)) → k .road < e
-        → Numbers e m (now (covered .exit))
+    ensures { λ m. ⌜ (m ≤ n + 1) × ((t : Sheet) (e : ℕ) → Numbered t e → RoadNumbers e n (now (covered .entry)) → k .«edge_idx» < e
+        → RoadNumbers e m (now (covered .exit))
         × (coverages-at t m (now (covered .exit)) (now (coverage .exit)) ≡ cover-with summed (coverages-at t n (now (covered .entry)) (now (coverage .entry))) (coverage-of t k))) ⌝ }
 {
     if summed {
-        let at = find(covered, n, k.road);
+        let at = find(covered, n, k.edge_idx);
         if at < n {
-            coverage[at] = coverage[at] + k.metres;
+            coverage[at] = coverage[at] + k.coverage_m;
             return n;
         }
     }
-    covered[n] = k.road;
-    coverage[n] = k.metres;
+    covered[n] = k.edge_idx;
+    coverage[n] = k.coverage_m;
     n + 1
 }
 
@@ -81,14 +90,14 @@ pub fn cover_leg(
     s: &[u8],
     c: Counts,
     summed: bool,
-    r: Route,
+    r: PathResult,
     area: &[u64],
     covered: &mut [usize],
     coverage: &mut [f64],
     n0: usize,
 ) -> usize
-    requires { ⌜ WellFormed (now s) c × Known (sheet-of (now s) c) c r (now area) × Numbers (c .e) n0 (now covered) × (n0 + c .n + 1 ≤ length (now covered)) × (n0 + c .n + 1 ≤ length (now coverage)) ⌝ }
-    ensures { λ n. ⌜ (n ≤ n0 + c .n + 1) × Numbers (c .e) n (now (covered .exit))
+    requires { ⌜ WellFormed (now s) c × Known (sheet-of (now s) c) c r (now area) × RoadNumbers (c .e) n0 (now covered) × (n0 + c .n + 1 ≤ length (now covered)) × (n0 + c .n + 1 ≤ length (now coverage)) ⌝ }
+    ensures { λ n. ⌜ (n ≤ n0 + c .n + 1) × RoadNumbers (c .e) n (now (covered .exit))
         × (coverages-at (sheet-of (now (s .entry)) c) n (now (covered .exit)) (now (coverage .exit))
         ≡ cover-all summed (coverages-at (sheet-of (now (s .entry)) c) n0 (now (covered .entry)) (now (coverage .entry))) (covers (sheet-of (now (s .entry)) c) r (now (area .entry)))) ⌝ }
 {
@@ -118,7 +127,7 @@ fn greater(coverage: &[f64], best: usize, j: usize) -> usize
 // The greatest of the first n coverages, the first if equal.
 pub fn primary_edge(covered: &[usize], coverage: &[f64], n: usize) -> Primary
     requires { ⌜ (n ≤ length (now covered)) × (n ≤ length (now coverage)) ⌝ }
-    ensures { λ p. ⌜ ((t : Sheet) → primary-of t p ≡ primary-edge (coverages-at t n (now (covered .entry)) (now (coverage .entry)))) × ((e : ℕ) → Numbers e n (now (covered .entry)) → Within e p) ⌝ }
+    ensures { λ p. ⌜ ((t : Sheet) → primary-of t p ≡ primary-edge (coverages-at t n (now (covered .entry)) (now (coverage .entry)))) × ((e : ℕ) → RoadNumbers e n (now (covered .entry)) → Within e p) ⌝ }
 {
     if n == 0 {
         return Primary::Nothing;

@@ -9,9 +9,9 @@ pub enum Last {
 }
 
 // A road by its number, with the metres that are covered of it.
-pub struct Cover {
-    pub road: usize,
-    pub metres: f64,
+pub struct EdgeCoverage {
+    pub edge_idx: usize,
+    pub coverage_m: f64,
 }
 
 // primary_edge: a road by its number with its coverage, if there is one.

@@ -6,13 +6,13 @@ ghost use lib.ListN.{length, getD, take, drop};
 ghost use Rattle.model.specs.Judge.{WellFormed};
 ghost use Rattle.model.specs.Sheet.{sheet-of};
 ghost use Rattle.model.specs.Lists.{last};
-ghost use Rattle.rules.specs.Code.{part-of};
-ghost use Rattle.courses.specs.Left.{size-of, numbers, numbers-of, middle-numbers, Walkable, last-of, fresh, Skips, Appended};
+ghost use Rattle.rules.specs.Code.{terminal-of};
+ghost use Rattle.courses.specs.Left.{size-of, coverage-numbers, numbers-of, middle-numbers, Walkable, last-of, unwritten, Skips, Appended};
 use crate::Last;
 use model::Counts;
 use rules::Middle;
-use rules::Part;
-use rules::Route;
+use rules::PathResult;
+use rules::Terminal;
 use search::route;
 
 // The last of the first n numbers.
@@ -29,14 +29,14 @@ pub fn last_written(ids: &[u64], n: usize) -> Last
 }
 
 // 1 for a terminal road that is kept.
-pub fn terminals(p: Part) -> usize
-    ensures { λ k. ⌜ (k ≡ length (part-of p)) × (k ≤ 1) ⌝ }
+pub fn terminals(p: Terminal) -> usize
+    ensures { λ k. ⌜ (k ≡ length (terminal-of p)) × (k ≤ 1) ⌝ }
 {
     if p.kept { 1 } else { 0 }
 }
 
 // How many roads a route has, where that many fit.
-pub fn count_roads(r: Route) -> usize
+pub fn count_roads(r: PathResult) -> usize
     requires { ⌜ r .middle .count + 2 ≤ 18446744073709551615 ⌝ }
     ensures { λ m. ⌜ (m ≡ size-of r) × (m ≤ r .middle .count + 2) ⌝ }
 {
@@ -46,7 +46,7 @@ pub fn count_roads(r: Route) -> usize
 }
 
 // The number of a route's first road.
-fn first_number(s: &[u8], c: Counts, r: Route, came_from: &[usize]) -> usize
+fn first_number(s: &[u8], c: Counts, r: PathResult, came_from: &[usize]) -> usize
     requires { ⌜ WellFormed (now s) c × Walkable (sheet-of (now s) c) c (now «came_from») (r .middle) × (0 < size-of r) ⌝ }
     ensures { λ k. ⌜ k ≡ getD (numbers-of r (middle-numbers (sheet-of (now (s .entry)) c) (now («came_from» .entry)) (r .middle))) 0 0 ⌝ }
 {
@@ -61,7 +61,7 @@ fn first_number(s: &[u8], c: Counts, r: Route, came_from: &[usize]) -> usize
 }
 
 // 1 where a route's first road is the last one written, which is then not written again.
-fn skip_of(s: &[u8], c: Counts, last: Last, r: Route, came_from: &[usize]) -> usize
+fn skip_of(s: &[u8], c: Counts, last: Last, r: PathResult, came_from: &[usize]) -> usize
     requires { ⌜ WellFormed (now s) c × Walkable (sheet-of (now s) c) c (now «came_from») (r .middle) × (r .middle .count + 2 ≤ 18446744073709551615) ⌝ }
     ensures { λ k. ⌜ Skips (last-of last) (numbers-of r (middle-numbers (sheet-of (now (s .entry)) c) (now («came_from» .entry)) (r .middle))) k ⌝ }
 {
@@ -77,9 +77,9 @@ fn skip_of(s: &[u8], c: Counts, last: Last, r: Route, came_from: &[usize]) -> us
 }
 
 // A terminal road that is kept, to the front of `out`: how many.
-fn write_terminal(p: Part, out: &mut [u64]) -> usize
+fn write_terminal(p: Terminal, out: &mut [u64]) -> usize
     requires { ⌜ 0 < length (now out) ⌝ }
-    ensures { λ k. ⌜ (k ≡ length (part-of p)) × (k ≤ 1) × (now (out .exit) ≡ numbers (part-of p) ++ drop k (now (out .entry))) ⌝ }
+    ensures { λ k. ⌜ (k ≡ length (terminal-of p)) × (k ≤ 1) × (now (out .exit) ≡ coverage-numbers (terminal-of p) ++ drop k (now (out .entry))) ⌝ }
 {
     if p.kept {
         out[0] = p.road.number as u64;
@@ -99,7 +99,7 @@ fn write_middle(s: &[u8], c: Counts, m: Middle, came_from: &[usize], out: &mut [
 }
 
 // The roads of a route in travel order, to the front of `out`.
-fn write_leg(s: &[u8], c: Counts, r: Route, came_from: &[usize], out: &mut [u64])
+fn write_leg(s: &[u8], c: Counts, r: PathResult, came_from: &[usize], out: &mut [u64])
     requires { ⌜ WellFormed (now s) c × Walkable (sheet-of (now s) c) c (now «came_from») (r .middle) × (r .middle .count + 2 ≤ length (now out)) ⌝ }
     ensures { λ _. ⌜ now (out .exit) ≡ numbers-of r (middle-numbers (sheet-of (now (s .entry)) c) (now («came_from» .entry)) (r .middle)) ++ drop (size-of r) (now (out .entry)) ⌝ }
 {
@@ -114,7 +114,7 @@ fn write_leg(s: &[u8], c: Counts, r: Route, came_from: &[usize], out: &mut [u64]
 pub fn append_leg(
     s: &[u8],
     c: Counts,
-    r: Route,
+    r: PathResult,
     came_from: &[usize],
     n: usize,
     ids: &mut [u64],

@@ -14,10 +14,10 @@ use Rattle.model.specs.Sheet.{sheet-of}
 use Rattle.model.specs.View.{view}
 use Rattle.model.specs.Search.{bounded-astar}
 use Rattle.model.specs.Decode.{outcome}
-use Rattle.model.specs.Call.{Lists, answered, roomy, untouched, decode-by, decode-sheet, after-judging, decode}
+use Rattle.model.specs.Call.{Lists, answered, has-room, untouched, decode-by, decode-sheet, after-judging, decode}
 use Rattle.model.proofs.Judging.{well-formed}
-use Rattle.model.proofs.Parsed.{node-count, stop-count}
-use Rattle.bounds.proofs.Room.{roomy-facts}
+use Rattle.model.proofs.Parsed.{node-count, point-count}
+use Rattle.bounds.proofs.Room.{room-facts}
 use Rattle.answers.specs.declared.Sizes.{Sizes}
 use Rattle.answers.specs.Room.{lent-of}
 use Rattle.decoder.specs.declared.Opened.the-variants as O
@@ -32,11 +32,11 @@ module _ (s : List ℕ) (a : Sizes) where
     formed : WellFormed s c
     formed = rw header (well-formed s (sym fine))
 
-    by-room : (l : Lists) → decode s (lent-of a l) ≡ cond (roomy (c .p) (c .n) (lent-of a l)) (answered (sheet-of s c) l (outcome (view (sheet-of s c)) (bounded-astar (a .heap)))) (untouched 6 0 l)
+    by-room : (l : Lists) → decode s (lent-of a l) ≡ cond (has-room (c .p) (c .n) (lent-of a l)) (answered (sheet-of s c) l (outcome (view (sheet-of s c)) (bounded-astar (a .heap)))) (untouched 6 0 l)
     unfolding decode after-judging decode-sheet decode-by
-    by-room l = rw (sym fine, sym header, stop-count s c, node-count s c)
+    by-room l = rw (sym fine, sym header, point-count s c, node-count s c)
 
-    module _ (r : Bool) (is : (l : Lists) → length (l .ids) ≡ a .ids → length (l .lengths) ≡ a .lengths → r ≡ roomy (c .p) (c .n) (lent-of a l)) where
+    module _ (r : Bool) (is : (l : Lists) → length (l .ids) ≡ a .ids → length (l .lengths) ≡ a .lengths → r ≡ has-room (c .p) (c .n) (lent-of a l)) where
       pub no-room : r ≡ false → Opens s a (O.Refused 6 0)
       unfolding Opens
       no-room e l sizes = by-room l ∙ rw (sym (is l (sizes .0) (sizes .1)), e)
@@ -49,7 +49,7 @@ module _ (s : List ℕ) (a : Sizes) where
       room e =
           let ids : length (any-lists .ids) ≡ a .ids = length-replicate (a .ids) 0 in
           let lengths : length (any-lists .lengths) ≡ a .lengths = length-replicate (a .lengths) f0 in
-          let facts = roomy-facts (c .p) (c .n) (lent-of a any-lists) (sym (is any-lists ids lengths) ∙ e) in
+          let facts = room-facts (c .p) (c .n) (lent-of a any-lists) (sym (is any-lists ids lengths) ∙ e) in
           record {
             node = facts .node;
             heap = facts .heap;

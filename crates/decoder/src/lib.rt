@@ -39,7 +39,7 @@ fn open_sheet(s: &[u8], a: Sizes) -> Opened
     match verdict {
         Judged::Fine => {
             let c = numbers::counts(s);
-            if answers::roomy(c, a) {
+            if answers::has_room(c, a) {
                 return Opened::Open(c);
             }
             Opened::Refused(6, 0)

@@ -9,20 +9,20 @@ use lib.Seq.{length-take-le}
 use lib.Ieee.{Float}
 use Rattle.model.specs.Lists.{head, last, maybe}
 use Rattle.model.specs.Sheet.{Sheet, road-at}
-use Rattle.model.specs.Ends.{End, Ends, at-end, at-start, extend-ends, part-of, offset-fraction}
-use Rattle.ends.specs.Whole.{Grows, Finished}
-use Rattle.ends.specs.declared.Grown.{Grown}
+use Rattle.model.specs.Ends.{PathEnd, FinalPath, at-end, at-start, extend-ends, part-of, offset-fraction}
+use Rattle.ends.specs.Whole.{EndHeld, FinalHeld}
+use Rattle.ends.specs.declared.WalkedEnd.{WalkedEnd}
 use Rattle.model.proofs.Members.{last-part}
 use Rattle.ends.proofs.Grow.{head-is}
 
-module _ (t : Sheet) (sc ec so eo : Float) (p n e : ℕ) (ids₀ ids₁ ids₂ : List ℕ) {F B : Grown} (fits : p + 4 * n ≤ length ids₀)
-    (f : Grows (at-end t ec (record { path = take p ids₀; offset = eo })) e (p + 2 * n) ids₁ F)
-    (b : Grows (at-start t sc (record { path = take (F .count) ids₁; offset = so })) e (F .count + 2 * n) ids₂ B)
+module _ (t : Sheet) (sc ec so eo : Float) (p n e : ℕ) (ids₀ ids₁ ids₂ : List ℕ) {F B : WalkedEnd} (fits : p + 4 * n ≤ length ids₀)
+    (f : EndHeld (at-end t ec (record { path = take p ids₀; offset = eo })) e (p + 2 * n) ids₁ F)
+    (b : EndHeld (at-start t sc (record { path = take (F .count) ids₁; offset = so })) e (F .count + 2 * n) ids₂ B)
     (len : length ids₂ ≡ length ids₀) where
-  abbrev result : Ends
+  abbrev result : FinalPath
   result = extend-ends t sc ec (record { path = take p ids₀; start-offset = so; end-offset = eo })
 
-  abbrev after-end : End
+  abbrev after-end : PathEnd
   after-end = at-end t ec (record { path = take p ids₀; offset = eo })
 
   start-is : at-start t sc (record { path = take (F .count) ids₁; offset = so }) ≡ at-start t sc (record { path = after-end .path; offset = so })
@@ -30,22 +30,22 @@ module _ (t : Sheet) (sc ec so eo : Float) (p n e : ℕ) (ids₀ ids₁ ids₂ :
 
   pub path-is : take (B .count) ids₂ ≡ result .path
   unfolding extend-ends
-  path-is = b .path ∙ ap (λ (x : End). x .path) start-is
+  path-is = b .path ∙ ap (λ (x : PathEnd). x .path) start-is
 
   within : B .count ≤ length ids₂
   within = omega (arith, f .room, b .room)
 
   start-offset-is : B .offset ≡ result .start-offset
   unfolding extend-ends
-  start-offset-is = b .offset ∙ ap (λ (x : End). x .offset) start-is
+  start-offset-is = b .offset ∙ ap (λ (x : PathEnd). x .offset) start-is
 
   end-offset-is : F .offset ≡ result .end-offset
   unfolding extend-ends
   end-offset-is = f .offset
 
   pub finished : {a z : Float}
-      → a ≡ part-of (B .offset) (road-at t (getD ids₂ 0 0) .metres) → z ≡ part-of (F .offset) (road-at t (getD ids₂ (B .count - 1) 0) .metres)
-      → Finished t result e (p + 4 * n) ids₂ (record { count = B .count; «start_offset» = B .offset; «start_fraction» = a; «end_offset» = F .offset; «end_fraction» = z })
+      → a ≡ part-of (B .offset) (road-at t (getD ids₂ 0 0) .«length_m») → z ≡ part-of (F .offset) (road-at t (getD ids₂ (B .count - 1) 0) .«length_m»)
+      → FinalHeld t result e (p + 4 * n) ids₂ (record { count = B .count; «start_offset» = B .offset; «start_fraction» = a; «end_offset» = F .offset; «end_fraction» = z })
   unfolding offset-fraction maybe
   finished {a} {z} u v =
       let h : head (result .path) ≡ some (getD ids₂ 0 0) = ap head (sym path-is) ∙ head-is (B .count) ids₂ (b .some-road) (omega (arith, within, b .some-road)) in

@@ -12,12 +12,12 @@ use lib.Ieee.{Float}
 use Rattle.model.specs.Numbers.{_⊕_, _<ᶠ_, f0}
 use Rattle.model.specs.Lists.{In, head, maybe}
 use Rattle.model.specs.Sheet.{Sheet, road-at}
-use Rattle.model.specs.Ends.{extension, lrp-prefers, End, at-end, at-start}
+use Rattle.model.specs.Ends.{extension, lrp-prefers, PathEnd, at-end, at-start}
 use Rattle.model.proofs.Members.{in-getD, last-part}
 use Rattle.bounds.proofs.EndBound.{in-reverse, in-place}
-use Rattle.search.specs.Answers.{Numbers}
-use Rattle.ends.specs.Post.{behind, Kept-as, Extended}
-use Rattle.ends.specs.Whole.{Grows}
+use Rattle.search.specs.Answers.{RoadNumbers}
+use Rattle.ends.specs.Post.{behind, Kept-as, ExtensionHeld}
+use Rattle.ends.specs.Whole.{EndHeld}
 use Rattle.ends.specs.declared.walks.Extension.{Extension}
 use Rattle.ends.specs.declared.walks.Extension.the-variants.{Kept, Dropped}
 use Rattle.ends.proofs.Turns.{whole}
@@ -29,19 +29,19 @@ head-is (suc p) [] h k = absurd (omega arith)
 head-is (suc p) (x ∷ ids) h k = refl
 
 -- entries that are as they were
-front-numbers : {e : ℕ} (p : ℕ) (ids₀ ids : List ℕ) → take p ids ≡ take p ids₀ → Numbers e p ids₀ → Numbers e p ids
+front-numbers : {e : ℕ} (p : ℕ) (ids₀ ids : List ℕ) → take p ids ≡ take p ids₀ → RoadNumbers e p ids₀ → RoadNumbers e p ids
 front-numbers {e} p ids₀ ids h n i l =
     let q : getD ids i 0 ≡ getD ids₀ i 0 = sym (getD-take p ids i 0 l) ∙ ap (λ (xs : List ℕ). getD xs i 0) h ∙ getD-take p ids₀ i 0 l in
     rw q (n i l)
 
 -- the numbers of a path, by place and by membership
-numbers-in : {e : ℕ} (n : ℕ) (ids : List ℕ) → Numbers e n ids → n ≤ length ids → (x : ℕ) → In x (take n ids) → x < e
+numbers-in : {e : ℕ} (n : ℕ) (ids : List ℕ) → RoadNumbers e n ids → n ≤ length ids → (x : ℕ) → In x (take n ids) → x < e
 numbers-in {e} n ids ns h x m =
     let k = in-place 0 m in
     let l : k .0 < n = omega (arith, k .1, length-take-le n ids h) in
     subst (λ (y : ℕ). y < e) (sym (getD-take n ids (k .0) 0 l) ∙ k .2) (ns (k .0) l)
 
-in-numbers : {e : ℕ} (n : ℕ) (ids : List ℕ) → length (take n ids) ≡ n → ((x : ℕ) → In x (take n ids) → x < e) → Numbers e n ids
+in-numbers : {e : ℕ} (n : ℕ) (ids : List ℕ) → length (take n ids) ≡ n → ((x : ℕ) → In x (take n ids) → x < e) → RoadNumbers e n ids
 in-numbers {e} n ids h all i l = subst (λ (y : ℕ). y < e) (getD-take n ids i 0 l) (all (getD (take n ids) i 0) (in-getD (take n ids) i 0 (omega (arith, h))))
 
 -- ---- the added roads turned to the front: all turned round, then the path turned back
@@ -79,7 +79,7 @@ module _ (p k : ℕ) (ids : List ℕ) (h : p + k ≤ length ids) where
       ap (take (p + k)) e
       ∙ take-at (reverse (behind p k ids) ++ take p ids) (drop (p + k) ids) (p + k) (omega (arith, length-append (reverse (behind p k ids)) (take p ids), added-size, front-size))
 
-  pub turned-numbers : (e : ℕ) (b : List ℕ) → Numbers e (p + k) ids → take (p + k) b ≡ reverse (behind p k ids) ++ take p ids → Numbers e (p + k) b
+  pub turned-numbers : (e : ℕ) (b : List ℕ) → RoadNumbers e (p + k) ids → take (p + k) b ≡ reverse (behind p k ids) ++ take p ids → RoadNumbers e (p + k) b
   turned-numbers e b n u =
       let all : (x : ℕ) → In x (take (p + k) ids) → x < e = numbers-in (p + k) ids n h in
       let w : take p ids ++ behind p k ids ≡ take (p + k) ids = whole p (p + k) ids (omega arith) in
@@ -90,27 +90,27 @@ module _ (p k : ℕ) (ids : List ℕ) (h : p + k ≤ length ids) where
       ])
 
 -- ---- both ends
-module _ (t : Sheet) (cap : Float) (ids₀ : List ℕ) (n e p : ℕ) (offset : Float) (pos : 0 < p) (fits : p + 2 * n ≤ length ids₀) (ns : Numbers e p ids₀) where
-  abbrev pub before : End
+module _ (t : Sheet) (cap : Float) (ids₀ : List ℕ) (n e p : ℕ) (offset : Float) (pos : 0 < p) (fits : p + 2 * n ≤ length ids₀) (ns : RoadNumbers e p ids₀) where
+  abbrev pub before : PathEnd
   before = record { path = take p ids₀; offset = offset }
 
   -- the path is as it was
-  as-was : {ids : List ℕ} {o : End} → take p ids ≡ take p ids₀ → before ≡ o → Grows o e (p + 2 * n) ids (record { count = p; offset = offset })
+  as-was : {ids : List ℕ} {o : PathEnd} → take p ids ≡ take p ids₀ → before ≡ o → EndHeld o e (p + 2 * n) ids (record { count = p; offset = offset })
   as-was {ids} h k = rw (sym k) (record { path = h; offset = refl; some-road = pos; room = omega arith; numbers = front-numbers p ids₀ ids h ns })
 
   -- ---- the end
   abbrev r-end : ℕ
   r-end = getD ids₀ (p - 1) 0
 
-  module _ {ids : List ℕ} {x : Extension} (a : Extended (extension t true cap (take p ids₀) r-end) n e p ids₀ ids x) where
-    pub end-dropped : x ≡ Dropped → Grows (at-end t cap before) e (p + 2 * n) ids (record { count = p; offset = offset })
+  module _ {ids : List ℕ} {x : Extension} (a : ExtensionHeld (extension t true cap (take p ids₀) r-end) n e p ids₀ ids x) where
+    pub end-dropped : x ≡ Dropped → EndHeld (at-end t cap before) e (p + 2 * n) ids (record { count = p; offset = offset })
     unfolding at-end maybe
     end-dropped h =
         let d : extension t true cap (take p ids₀) r-end ≡ none = rw h at (a .answer) in
         as-was (a .front) (rw (last-part 0 p ids₀ pos (omega arith), d))
 
     module _ {k : ℕ} {m : Float} (h : x ≡ Kept k m) (size : length ids ≡ length ids₀) where
-      end-kept-as : Kept-as (extension t true cap (take p ids₀) r-end) n e p ids k (record { added = behind p k ids; metres = m })
+      end-kept-as : Kept-as (extension t true cap (take p ids₀) r-end) n e p ids k (record { added = behind p k ids; added-m = m })
       end-kept-as = rw h at (a .answer)
 
       abbrev x-end : ℕ
@@ -126,10 +126,10 @@ module _ (t : Sheet) (cap : Float) (ids₀ : List ℕ) (n e p : ℕ) (offset : F
         test : {b : Bool} → d <ᶠ f ≡ b → lrp-prefers (t .from-last) (road-at t x-end .target) (road-at t r-end .target) ≡ b
         test q = rw (sym nw, sym od, sym dn, sym df) q
 
-        pub end-far : d <ᶠ f ≡ false → Grows (at-end t cap before) e (p + 2 * n) ids (record { count = p; offset = offset })
+        pub end-far : d <ᶠ f ≡ false → EndHeld (at-end t cap before) e (p + 2 * n) ids (record { count = p; offset = offset })
         end-far q = as-was (a .front) (sym (end-is ∙ rw (test q)))
 
-        pub end-near : d <ᶠ f ≡ true → Grows (at-end t cap before) e (p + 2 * n) ids (record { count = p + k; offset = offset ⊕ m })
+        pub end-near : d <ᶠ f ≡ true → EndHeld (at-end t cap before) e (p + 2 * n) ids (record { count = p + k; offset = offset ⊕ m })
         end-near q =
             let w = end-kept-as in
             rw (end-is, test q)
@@ -145,15 +145,15 @@ module _ (t : Sheet) (cap : Float) (ids₀ : List ℕ) (n e p : ℕ) (offset : F
   abbrev r-start : ℕ
   r-start = getD ids₀ 0 0
 
-  module _ {ids : List ℕ} {x : Extension} (a : Extended (extension t false cap (take p ids₀) r-start) n e p ids₀ ids x) where
-    pub start-dropped : x ≡ Dropped → Grows (at-start t cap before) e (p + 2 * n) ids (record { count = p; offset = offset })
+  module _ {ids : List ℕ} {x : Extension} (a : ExtensionHeld (extension t false cap (take p ids₀) r-start) n e p ids₀ ids x) where
+    pub start-dropped : x ≡ Dropped → EndHeld (at-start t cap before) e (p + 2 * n) ids (record { count = p; offset = offset })
     unfolding at-start maybe
     start-dropped h =
         let d : extension t false cap (take p ids₀) r-start ≡ none = rw h at (a .answer) in
         as-was (a .front) (rw (head-is p ids₀ pos (omega arith), d))
 
     module _ {k : ℕ} {m : Float} (h : x ≡ Kept k m) (size : length ids ≡ length ids₀) where
-      start-kept-as : Kept-as (extension t false cap (take p ids₀) r-start) n e p ids k (record { added = behind p k ids; metres = m })
+      start-kept-as : Kept-as (extension t false cap (take p ids₀) r-start) n e p ids k (record { added = behind p k ids; added-m = m })
       start-kept-as = rw h at (a .answer)
 
       abbrev x-start : ℕ
@@ -169,10 +169,10 @@ module _ (t : Sheet) (cap : Float) (ids₀ : List ℕ) (n e p : ℕ) (offset : F
         start-test : {b : Bool} → d <ᶠ f ≡ b → lrp-prefers (t .from-first) (road-at t x-start .source) (road-at t r-start .source) ≡ b
         start-test q = rw (sym nw, sym od, sym dn, sym df) q
 
-        pub start-far : d <ᶠ f ≡ false → Grows (at-start t cap before) e (p + 2 * n) ids (record { count = p; offset = offset })
+        pub start-far : d <ᶠ f ≡ false → EndHeld (at-start t cap before) e (p + 2 * n) ids (record { count = p; offset = offset })
         start-far q = as-was (a .front) (sym (start-is ∙ rw (start-test q)))
 
-        pub start-near : d <ᶠ f ≡ true → {b : List ℕ} → take (p + k) b ≡ reverse (behind p k ids) ++ take p ids → Grows (at-start t cap before) e (p + 2 * n) b (record { count = p + k; offset = offset ⊕ m })
+        pub start-near : d <ᶠ f ≡ true → {b : List ℕ} → take (p + k) b ≡ reverse (behind p k ids) ++ take p ids → EndHeld (at-start t cap before) e (p + 2 * n) b (record { count = p + k; offset = offset ⊕ m })
         start-near q {b} u =
             let w = start-kept-as in
             rw (start-is, start-test q)

@@ -5,10 +5,10 @@ use lib.Ieee.{Float}
 use Rattle.model.specs.declared.Settings.{Settings}
 use Rattle.model.specs.Numbers.{_⊖_, fmin, fmax, f0}
 use Rattle.model.specs.View.{max-valid-distance}
-use Rattle.model.specs.Decode.{Segment}
+use Rattle.model.specs.Decode.{SegmentInfo}
 use Rattle.model.specs.Ends.{snap-cap-m}
 
-pub cap-on : (c : Settings) (g : Segment) → c .«snap_to_valid_nodes» ≡ true → {most left r : Float}
+pub cap-on : (c : Settings) (g : SegmentInfo) → c .«snap_to_valid_nodes» ≡ true → {most left r : Float}
     → most ≡ max-valid-distance c (g .expected-m) → left ≡ fmin (c .«max_snap_extension_m») (most ⊖ g .length-m) → r ≡ fmax left f0 → r ≡ snap-cap-m c g
 unfolding snap-cap-m
 cap-on c g on {most} {left} x y z =

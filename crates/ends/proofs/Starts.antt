@@ -27,7 +27,7 @@ module _ (t : Sheet) (forward : Bool) (cap : Float) (path : List ℕ) (r : ℕ) 
   unfolding walk walked maybe
   none-forced h = rw h
 
-  forced-far : (x : ℕ) → way t forward r ≡ some x → cap <ᶠ f0 ⊕ road-at t x .metres ≡ true → extension t forward cap path r ≡ none
+  forced-far : (x : ℕ) → way t forward r ≡ some x → cap <ᶠ f0 ⊕ road-at t x .«length_m» ≡ true → extension t forward cap path r ≡ none
   unfolding walk maybe
   forced-far x h q = rw (h, q) (either-none (meets x (path ++ [])))
 
@@ -37,7 +37,7 @@ module _ (t : Sheet) (forward : Bool) (cap : Float) (path : List ℕ) (r : ℕ) 
   pub no-way-none : first-way t forward r ≡ none → extension t forward cap path r ≡ none
   no-way-none h = none-forced (way-is t forward r ∙ rw h (either-none (is-valid-node t (first-node t forward r))))
 
-  pub far-none : {x : ℕ} {d : Float} → first-way t forward r ≡ some x → d ≡ road-at t x .metres → cap <ᶠ f0 ⊕ d ≡ true → extension t forward cap path r ≡ none
+  pub far-none : {x : ℕ} {d : Float} → first-way t forward r ≡ some x → d ≡ road-at t x .«length_m» → cap <ᶠ f0 ⊕ d ≡ true → extension t forward cap path r ≡ none
   far-none {x} h g q = go (is-valid-node t (first-node t forward r)) refl
     where
       go : (b : Bool) → is-valid-node t (first-node t forward r) ≡ b → extension t forward cap path r ≡ none

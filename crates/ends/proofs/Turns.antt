@@ -15,14 +15,14 @@ use borrow.Author.Tests.{eq-eqb, ne-eqb}
 use Rattle.model.specs.Numbers.{_⊕_, _<ᶠ_, f0}
 use Rattle.model.specs.Lists.{maybe}
 use Rattle.model.specs.Sheet.{Sheet, road-at}
-use Rattle.model.specs.Ends.{Walk, fresh, with-road, meets, walked, way, walk, extension}
+use Rattle.model.specs.Ends.{Walk, no-walk, with-road, meets, walked, way, walk, extension}
 use Rattle.bounds.specs.Formed.{Formed}
 use Rattle.bounds.proofs.AmountLaws.{zero-amount}
 use Rattle.bounds.proofs.Choices.{below-or-not}
 use Rattle.bounds.proofs.Pigeon.{Other, distinct-snoc}
-use Rattle.bounds.proofs.WalkBound.{Forced, Trail, unmet, fresh-trail, way-forced, trail-few}
-use Rattle.search.specs.Answers.{Numbers}
-use Rattle.ends.specs.Post.{Extended}
+use Rattle.bounds.proofs.WalkBound.{Forced, Trail, unmet, no-walk-trail, way-forced, trail-few}
+use Rattle.search.specs.Answers.{RoadNumbers}
+use Rattle.ends.specs.Post.{ExtensionHeld}
 use Rattle.ends.specs.declared.walks.Extension.the-variants.{Kept, Dropped}
 
 -- ---- the list: the path, then what is added
@@ -40,7 +40,7 @@ part-more p end ids x h k =
     let l : p ≤ length (take end ids) = omega (arith, length-take-le end ids (omega arith)) in
     ap (drop p) (ap (λ (n : ℕ). take n (set ids end x)) (add-one end) ∙ take-suc-set ids end x k) ∙ drop-append-le p (take end ids) (x ∷ []) l
 
-numbers-more : {e : ℕ} (ids : List ℕ) (end x : ℕ) → end < length ids → x < e → Numbers e end ids → Numbers e (end + 1) (set ids end x)
+numbers-more : {e : ℕ} (ids : List ℕ) (end x : ℕ) → end < length ids → x < e → RoadNumbers e end ids → RoadNumbers e (end + 1) (set ids end x)
 numbers-more {e} ids end x ln xe old i hi =
     elim (below-or-not i end) [
       | inl l ↦ rw (getD-set-other ids end i x 0 (λ q. omega arith)) (old i l)
@@ -57,7 +57,7 @@ above p end h k =
 -- ---- the definition, one turn
 
 turn : (t : Sheet) (b : Bool) (cap : Float) (path : List ℕ) (r : ℕ) (w : Walk) {f g : ℕ} {l : List ℕ} → f ≡ suc g → path ++ w .added ≡ l
-    → maybe (way t b r) (walked w) (λ x. cond (meets x l) none (cond (cap <ᶠ with-road t x w .metres) none (walk g t b cap path x (with-road t x w))))
+    → maybe (way t b r) (walked w) (λ x. cond (meets x l) none (cond (cap <ᶠ with-road t x w .added-m) none (walk g t b cap path x (with-road t x w))))
     ≡ walk f t b cap path r w
 unfolding walk
 turn t b cap path r w h k = simp (h, sym k)
@@ -66,14 +66,14 @@ turn t b cap path r w h k = simp (h, sym k)
 
 module _ (t : Sheet) (b : Bool) (cap : Float) (ids₀ : List ℕ) (e p r : ℕ) where
   abbrev so-far : ℕ → List ℕ → Float → Walk
-  so-far end ids m = record { added = part p end ids; metres = m }
+  so-far end ids m = record { added = part p end ids; added-m = m }
 
   -- roads added, of no length: how many there are does not depend on it
   abbrev Added : List ℕ → Type 0
-  Added xs = (f : Formed t) → Trail t f b (record { added = xs; metres = f0 })
+  Added xs = (f : Formed t) → Trail t f b (record { added = xs; added-m = f0 })
 
   nothing-added : Added []
-  nothing-added f = fresh-trail t f b
+  nothing-added f = no-walk-trail t f b
 
   pub record Walking (ids : List ℕ) (cur end : ℕ) (m : Float) : Type 0 where
     pub from : p ≤ end
@@ -82,11 +82,11 @@ module _ (t : Sheet) (b : Bool) (cap : Float) (ids₀ : List ℕ) (e p r : ℕ) 
     pub size : length ids ≡ length ids₀
     pub front : take p ids ≡ take p ids₀
     pub road-in : cur < e
-    pub numbers : Numbers e end ids
+    pub numbers : RoadNumbers e end ids
     pub trail : Added (part p end ids)
     pub same : walk (suc (2 * t .nodes) - (end - p)) t b cap (take p ids₀) cur (so-far end ids m) ≡ extension t b cap (take p ids₀) r
 
-  pub walking-start : p + 2 * t .nodes ≤ length ids₀ → Numbers e p ids₀ → r < e → Walking ids₀ r p f0
+  pub walking-start : p + 2 * t .nodes ≤ length ids₀ → RoadNumbers e p ids₀ → r < e → Walking ids₀ r p f0
   walking-start h n k = record {
     from = omega arith;
     room = h;
@@ -96,14 +96,14 @@ module _ (t : Sheet) (b : Bool) (cap : Float) (ids₀ : List ℕ) (e p r : ℕ) 
     road-in = k;
     numbers = n;
     trail = rw (slice-empty p ids₀) nothing-added;
-    same = rw (slice-empty p ids₀) (ap (λ (f : ℕ). walk f t b cap (take p ids₀) r fresh) {x = suc (2 * t .nodes) - (p - p)} {y = suc (2 * t .nodes)} (omega arith));
+    same = rw (slice-empty p ids₀) (ap (λ (f : ℕ). walk f t b cap (take p ids₀) r no-walk) {x = suc (2 * t .nodes) - (p - p)} {y = suc (2 * t .nodes)} (omega arith));
   }
 
   module _ {ids : List ℕ} {cur end : ℕ} {m : Float} (a : Walking ids cur end m) where
     -- the definition at this turn
     now-is :
         maybe (way t b cur) (walked (so-far end ids m))
-        (λ x. cond (meets x (take end ids)) none (cond (cap <ᶠ with-road t x (so-far end ids m) .metres) none (walk (2 * t .nodes - (end - p)) t b cap (take p ids₀) x (with-road t x (so-far end ids m)))))
+        (λ x. cond (meets x (take end ids)) none (cond (cap <ᶠ with-road t x (so-far end ids m) .added-m) none (walk (2 * t .nodes - (end - p)) t b cap (take p ids₀) x (with-road t x (so-far end ids m)))))
         ≡ extension t b cap (take p ids₀) r
     now-is =
         let w : take p ids₀ ++ part p end ids ≡ take end ids = ap (λ (l : List ℕ). l ++ part p end ids) (sym (a .front)) ∙ whole p end ids (a .from) in
@@ -129,7 +129,7 @@ module _ (t : Sheet) (b : Bool) (cap : Float) (ids₀ : List ℕ) (e p r : ℕ) 
       unfolding maybe
       met-again k l = sym now-is ∙ rw (h, sym k, l)
 
-      module _ {y : Bool} (k : y ≡ meets x (take end ids)) (l : y ≡ false) {d : Float} (g : d ≡ road-at t x .metres) where
+      module _ {y : Bool} (k : y ≡ meets x (take end ids)) (l : y ≡ false) {d : Float} (g : d ≡ road-at t x .«length_m») where
         pub too-far : cap <ᶠ m ⊕ d ≡ true → extension t b cap (take p ids₀) r ≡ none
         unfolding maybe
         too-far q = sym now-is ∙ rw (h, sym k, l, sym g, q)
@@ -141,7 +141,7 @@ module _ (t : Sheet) (b : Bool) (cap : Float) (ids₀ : List ℕ) (e p r : ℕ) 
             record {
               distinct = distinct-snoc (part p end ids) x (a .trail f .distinct) o;
               forced = λ z m. elim (List·Memᴰ·append-cases (part p end ids) m) [ inl j ↦ a .trail f .forced z j | inr j ↦ subst (Forced t f b) (sym (List·Memᴰ·eq-of-singleton j)) (way-forced t f b cur x h) ];
-              metres = zero-amount;
+              added-m = zero-amount;
             }
 
         pub has-room : Formed t → end < p + 2 * t .nodes
@@ -170,10 +170,10 @@ module _ (t : Sheet) (b : Bool) (cap : Float) (ids₀ : List ℕ) (e p r : ℕ) 
 
     -- ---- the answer
     module _ {n : ℕ} (nn : t .nodes ≡ n) where
-      pub dropped : extension t b cap (take p ids₀) r ≡ none → Extended (extension t b cap (take p ids₀) r) n e p ids₀ ids Dropped
+      pub dropped : extension t b cap (take p ids₀) r ≡ none → ExtensionHeld (extension t b cap (take p ids₀) r) n e p ids₀ ids Dropped
       dropped h = record { front = a .front; answer = h }
 
-      pub kept : (end ≡ p → ⊥) → way t b cur ≡ none → Extended (extension t b cap (take p ids₀) r) n e p ids₀ ids (Kept (end - p) m)
+      pub kept : (end ≡ p → ⊥) → way t b cur ≡ none → ExtensionHeld (extension t b cap (take p ids₀) r) n e p ids₀ ids (Kept (end - p) m)
       kept k h =
           let z : p + (end - p) ≡ end = omega (arith, a .from) in
           record {

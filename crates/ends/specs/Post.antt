@@ -5,7 +5,7 @@ use mathlib.Core.Option.{Option, none, some}
 use mathlib.Core.List.{List}
 use lib.ListN.{take, drop}
 use Rattle.model.specs.Ends.{Walk}
-use Rattle.search.specs.Answers.{Numbers}
+use Rattle.search.specs.Answers.{RoadNumbers}
 use Rattle.ends.specs.declared.walks.Extension.{Extension}
 use Rattle.ends.specs.declared.walks.Extension.the-variants.{Kept, Dropped}
 
@@ -18,13 +18,13 @@ pub record Kept-as (o : Option Walk) (n e p : ℕ) (ids : List ℕ) (k : ℕ) (w
   pub is : o ≡ some w
   pub some-added : 0 < k
   pub few : k ≤ 2 * n
-  pub numbers : Numbers e (p + k) ids
+  pub numbers : RoadNumbers e (p + k) ids
 
-abbrev pub Answers : Option Walk → ℕ → ℕ → ℕ → List ℕ → Extension → Type 0
-Answers o n e p ids (Kept k m) = Kept-as o n e p ids k (record { added = behind p k ids; metres = m })
-Answers o n e p ids Dropped = o ≡ none
+abbrev pub ExtensionIs : Option Walk → ℕ → ℕ → ℕ → List ℕ → Extension → Type 0
+ExtensionIs o n e p ids (Kept k m) = Kept-as o n e p ids k (record { added = behind p k ids; added-m = m })
+ExtensionIs o n e p ids Dropped = o ≡ none
 
 -- n nodes, e roads, a path of p roads; the list before and after
-pub record Extended (o : Option Walk) (n e p : ℕ) (ids₀ ids : List ℕ) (x : Extension) : Type 0 where
+pub record ExtensionHeld (o : Option Walk) (n e p : ℕ) (ids₀ ids : List ℕ) (x : Extension) : Type 0 where
   pub front : take p ids ≡ take p ids₀
-  pub answer : Answers o n e p ids x
+  pub answer : ExtensionIs o n e p ids x

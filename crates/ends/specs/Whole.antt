@@ -5,21 +5,21 @@ use mathlib.Core.List.{List}
 use lib.ListN.{length, take}
 use Rattle.model.specs.Lists.{head, last}
 use Rattle.model.specs.Sheet.{Sheet}
-use Rattle.model.specs.Ends.{End, Ends, offset-fraction}
-use Rattle.search.specs.Answers.{Numbers}
-use Rattle.ends.specs.declared.Grown.{Grown}
+use Rattle.model.specs.Ends.{PathEnd, FinalPath, offset-fraction}
+use Rattle.search.specs.Answers.{RoadNumbers}
+use Rattle.ends.specs.declared.WalkedEnd.{WalkedEnd}
 use Rattle.ends.specs.declared.Final.{Final}
 
 -- the path after an end's walk: `count` roads, at most `most`
-pub record Grows (o : End) (e most : ℕ) (ids : List ℕ) (g : Grown) : Type 0 where
+pub record EndHeld (o : PathEnd) (e most : ℕ) (ids : List ℕ) (g : WalkedEnd) : Type 0 where
   pub path : take (g .count) ids ≡ o .path
   pub offset : g .offset ≡ o .offset
   pub some-road : 0 < g .count
   pub room : g .count ≤ most
-  pub numbers : Numbers e (g .count) ids
+  pub numbers : RoadNumbers e (g .count) ids
 
 -- the path after both walks: `count` roads, at most `most`
-pub record Finished (t : Sheet) (o : Ends) (e most : ℕ) (ids : List ℕ) (r : Final) : Type 0 where
+pub record FinalHeld (t : Sheet) (o : FinalPath) (e most : ℕ) (ids : List ℕ) (r : Final) : Type 0 where
   pub path : take (r .count) ids ≡ o .path
   pub count : r .count ≡ length (o .path)
   pub «start_offset» : r .«start_offset» ≡ o .start-offset
@@ -28,4 +28,4 @@ pub record Finished (t : Sheet) (o : Ends) (e most : ℕ) (ids : List ℕ) (r : 
   pub «end_fraction» : r .«end_fraction» ≡ offset-fraction t (o .end-offset) (last (o .path))
   pub some-road : 0 < r .count
   pub room : r .count ≤ most
-  pub numbers : Numbers e (r .count) ids
+  pub numbers : RoadNumbers e (r .count) ids

@@ -8,7 +8,7 @@ ghost use Rattle.model.specs.Ends.{snap-cap-m, part-of};
 
 // How many metres a walk may add at an end of a segment: 0 with snapping off.
 pub fn snap_cap_m(c: Settings, expected_m: f64, length_m: f64) -> f64
-    ensures { λ r. ⌜ ((start-offset end-offset : Float) → r ≡ snap-cap-m c (record { length-m = «length_m»; expected-m = «expected_m»; start-offset = start-offset; end-offset = end-offset })) ⌝ }
+    ensures { λ r. ⌜ ((start-offset end-offset : Float) → r ≡ snap-cap-m c (record { length-m = «length_m»; expected-m = «expected_m»; start-offset-m = start-offset; end-offset-m = end-offset })) ⌝ }
 {
     if c.snap_to_valid_nodes {
         let most = limits::max_valid_distance(c, expected_m);

@@ -5,7 +5,7 @@ ghost use lib.ListN.{length, take};
 ghost use Rattle.model.specs.Ends.{meets};
 
 // Whether road x is among the first n.
-pub fn met(ids: &[usize], n: usize, x: usize) -> bool
+pub fn meets(ids: &[usize], n: usize, x: usize) -> bool
     requires { ⌜ n ≤ length (now ids) ⌝ }
     ensures { λ r. ⌜ r ≡ meets x (take n (now (ids .entry))) ⌝ }
 {

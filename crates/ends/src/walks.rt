@@ -14,9 +14,9 @@ ghost use Rattle.model.specs.Judge.{WellFormed};
 ghost use Rattle.model.specs.Sheet.{sheet-of};
 ghost use Rattle.model.specs.Ends.{way, extension};
 ghost use Rattle.road_network.specs.Graph.{Forces};
-ghost use Rattle.search.specs.Answers.{Numbers};
+ghost use Rattle.search.specs.Answers.{RoadNumbers};
 ghost use Rattle.ends.specs.First.{first-node, first-way};
-ghost use Rattle.ends.specs.Post.{Extended};
+ghost use Rattle.ends.specs.Post.{ExtensionHeld};
 
 // A walk's answer: so many roads added, of so many metres; or nothing.
 pub enum Extension {
@@ -69,7 +69,7 @@ fn may_start(s: &[u8], c: Counts, forward: bool, cap: f64, r: usize) -> bool
     let Forced::Way(x) = first_way(s, c, r, forward) else {
         return false;
     };
-    let metres = 0.0 + roads::metres(s, c, x);
+    let metres = 0.0 + roads::length_m(s, c, x);
     !(cap < metres)
 }
 
@@ -83,8 +83,8 @@ pub fn extend(
     n: usize,
     r: usize,
 ) -> Extension
-    requires { ⌜ WellFormed (now s) c × (r < c .e) × (n + 2 * c .n ≤ length (now ids)) × Numbers (c .e) n (now ids) ⌝ }
-    ensures { λ x. ⌜ Extended (extension (sheet-of (now (s .entry)) c) forward cap (take n (now (ids .entry))) r) (c .n) (c .e) n (now (ids .entry)) (now (ids .exit)) x ⌝ }
+    requires { ⌜ WellFormed (now s) c × (r < c .e) × (n + 2 * c .n ≤ length (now ids)) × RoadNumbers (c .e) n (now ids) ⌝ }
+    ensures { λ x. ⌜ ExtensionHeld (extension (sheet-of (now (s .entry)) c) forward cap (take n (now (ids .entry))) r) (c .n) (c .e) n (now (ids .entry)) (now (ids .exit)) x ⌝ }
 {
     if !may_start(s, c, forward, cap, r) {
         return Extension::Dropped;
@@ -96,10 +96,10 @@ pub fn extend(
         let Forced::Way(x) = forced(s, c, road, forward) else {
             break;
         };
-        if lists::met(ids, end, x) {
+        if lists::meets(ids, end, x) {
             return Extension::Dropped;
         }
-        metres = metres + roads::metres(s, c, x);
+        metres = metres + roads::length_m(s, c, x);
         if cap < metres {
             return Extension::Dropped;
         }

@@ -1,10 +1,10 @@
-// From the course of a reference to its answer: the primary road, the walks at both ends, the answer lists.
+// From the path of a reference to its answer: the primary road, the walks at both ends, the answer lists.
 use answers::Answer;
 use answers::Match;
 use courses::Primary;
 use courses::coverage;
 use ends::caps;
-use lines::Course;
+use lines::FullPath;
 use model::Counts;
 use model::Settings;
 use references::Outcome;
@@ -21,9 +21,9 @@ ghost use Rattle.model.specs.Decode as decode;
 ghost use Rattle.search.specs.Areas.{AnswerRoom};
 ghost use Rattle.model.specs.Call.{answered};
 ghost use Rattle.answers.specs.Room.{lists, decoded};
-ghost use Rattle.search.specs.Answers.{Numbers};
-ghost use Rattle.lines.specs.Legs.{Runs};
-ghost use Rattle.references.specs.Reference.{Comes};
+ghost use Rattle.search.specs.Answers.{RoadNumbers};
+ghost use Rattle.lines.specs.Legs.{PathWritten};
+ghost use Rattle.references.specs.Reference.{ReferenceOutcome};
 
 // A refusal's answer: zeros in both lists.
 fn refuse(
@@ -48,17 +48,17 @@ fn finish_path(
     s: &[u8],
     c: Counts,
     set: Settings,
-    x: Course,
+    x: FullPath,
     road: usize,
     metres: f64,
     covered: &mut [usize],
     ids: &mut [u64],
     lengths: &mut [f64],
 ) -> Answer
-    requires { ⌜ WellFormed (now s) c × (set ≡ sheet-of (now s) c .settings) × (road < c .e) × (0 < x .written) × Numbers (c .e) (x .written) (now ids) ⌝ }
+    requires { ⌜ WellFormed (now s) c × (set ≡ sheet-of (now s) c .settings) × (road < c .e) × (0 < x .written) × RoadNumbers (c .e) (x .written) (now ids) ⌝ }
     requires { ⌜ (x .written + 4 * c .n ≤ length (now covered)) × (x .written + 4 * c .n ≤ length (now ids)) × (x .written + 4 * c .n ≤ length (now lengths)) ⌝ }
-    ensures { λ r. ⌜ ((k : decode.Course) → Runs k (now (ids .entry)) x
-        → decoded r (now (ids .exit)) (now (lengths .exit)) ≡ answered (sheet-of (now (s .entry)) c) (lists (now (ids .entry)) (now (lengths .entry))) (matched k (record { road = road-at (sheet-of (now (s .entry)) c) road; metres = metres }))) ⌝ }
+    ensures { λ r. ⌜ ((k : decode.FullPath) → PathWritten k (now (ids .entry)) x
+        → decoded r (now (ids .exit)) (now (lengths .exit)) ≡ answered (sheet-of (now (s .entry)) c) (lists (now (ids .entry)) (now (lengths .entry))) (matched k (record { road = road-at (sheet-of (now (s .entry)) c) road; coverage-m = metres }))) ⌝ }
 {
     let primary = roads::id(s, c, road);
     let n = x.written;
@@ -74,13 +74,13 @@ fn finish_path(
         n,
         start_cap,
         end_cap,
-        first.start_offset,
-        last.end_offset,
+        first.start_offset_m,
+        last.end_offset_m,
     );
     answers::write_path(s, c, covered, f.count, ids, lengths);
     Answer::Matched(Match {
         count: f.count,
-        length_m: x.total,
+        length_m: x.total_length,
         start_offset: f.start_offset,
         start_fraction: f.start_fraction,
         end_offset: f.end_offset,
@@ -90,20 +90,20 @@ fn finish_path(
     })
 }
 
-// The answer of a course: without coverage it is refusal 10 from the first point to the last.
-fn finish_course(
+// The answer of a path: without coverage it is refusal 10 from the first point to the last.
+fn finish_legs(
     s: &[u8],
     c: Counts,
     set: Settings,
-    x: Course,
+    x: FullPath,
     covered: &mut [usize],
     coverage: &[f64],
     ids: &mut [u64],
     lengths: &mut [f64],
 ) -> Answer
-    requires { ⌜ WellFormed (now s) c × (set ≡ sheet-of (now s) c .settings) × ((slots : ℕ) × Comes (sheet-of (now s) c) c (outcome (view (sheet-of (now s) c)) (bounded-astar slots)) (now ids) (now covered) (now coverage) (Outcome.Legs x)) ⌝ }
+    requires { ⌜ WellFormed (now s) c × (set ≡ sheet-of (now s) c .settings) × ((slots : ℕ) × ReferenceOutcome (sheet-of (now s) c) c (outcome (view (sheet-of (now s) c)) (bounded-astar slots)) (now ids) (now covered) (now coverage) (Outcome.Legs x)) ⌝ }
     requires { ⌜ AnswerRoom c (now covered) (now coverage) (now ids) (now lengths) ⌝ }
-    ensures { λ r. ⌜ ((slots : ℕ) → Comes (sheet-of (now (s .entry)) c) c (outcome (view (sheet-of (now (s .entry)) c)) (bounded-astar slots)) (now (ids .entry)) (now (covered .entry)) (now (coverage .entry)) (Outcome.Legs x)
+    ensures { λ r. ⌜ ((slots : ℕ) → ReferenceOutcome (sheet-of (now (s .entry)) c) c (outcome (view (sheet-of (now (s .entry)) c)) (bounded-astar slots)) (now (ids .entry)) (now (covered .entry)) (now (coverage .entry)) (Outcome.Legs x)
         → decoded r (now (ids .exit)) (now (lengths .exit)) ≡ answered (sheet-of (now (s .entry)) c) (lists (now (ids .entry)) (now (lengths .entry))) (outcome (view (sheet-of (now (s .entry)) c)) (bounded-astar slots))) ⌝ }
 {
     match coverage::primary_edge(covered, coverage, x.covered) {
@@ -125,13 +125,13 @@ pub fn answer(
     ids: &mut [u64],
     lengths: &mut [f64],
 ) -> Answer
-    requires { ⌜ WellFormed (now s) c × (set ≡ sheet-of (now s) c .settings) × ((slots : ℕ) × Comes (sheet-of (now s) c) c (outcome (view (sheet-of (now s) c)) (bounded-astar slots)) (now ids) (now covered) (now coverage) out) ⌝ }
+    requires { ⌜ WellFormed (now s) c × (set ≡ sheet-of (now s) c .settings) × ((slots : ℕ) × ReferenceOutcome (sheet-of (now s) c) c (outcome (view (sheet-of (now s) c)) (bounded-astar slots)) (now ids) (now covered) (now coverage) out) ⌝ }
     requires { ⌜ AnswerRoom c (now covered) (now coverage) (now ids) (now lengths) ⌝ }
-    ensures { λ r. ⌜ ((slots : ℕ) → Comes (sheet-of (now (s .entry)) c) c (outcome (view (sheet-of (now (s .entry)) c)) (bounded-astar slots)) (now (ids .entry)) (now (covered .entry)) (now (coverage .entry)) out
+    ensures { λ r. ⌜ ((slots : ℕ) → ReferenceOutcome (sheet-of (now (s .entry)) c) c (outcome (view (sheet-of (now (s .entry)) c)) (bounded-astar slots)) (now (ids .entry)) (now (covered .entry)) (now (coverage .entry)) out
         → decoded r (now (ids .exit)) (now (lengths .exit)) ≡ answered (sheet-of (now (s .entry)) c) (lists (now (ids .entry)) (now (lengths .entry))) (outcome (view (sheet-of (now (s .entry)) c)) (bounded-astar slots))) ⌝ }
 {
     match out {
         Outcome::Refused(n, a, b) => refuse(s, c, n, a, b, covered, ids, lengths),
-        Outcome::Legs(x) => finish_course(s, c, set, x, covered, coverage, ids, lengths),
+        Outcome::Legs(x) => finish_legs(s, c, set, x, covered, coverage, ids, lengths),
     }
 }

@@ -1,1 +1,1 @@
-pub mod Face
+pub mod Exported

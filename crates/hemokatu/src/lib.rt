@@ -10,7 +10,7 @@ ghost use Rattle.model.specs.Call.{decode};
 ghost use Rattle.charge.specs.Roads.{charge};
 ghost use Rattle.answers.specs.Room.{lists, answer-of};
 ghost use Rattle.decoder.specs.Opened.{lent};
-ghost use Rattle.hemokatu.specs.Face.{version, judgement-of, sizes-of, answered-of, Answers};
+ghost use Rattle.hemokatu.specs.Exported.{version, judgement-of, sizes-of, answered-of, AnsweredAs};
 
 // 10000 major + 100 minor + patch: 0.2.0. The header and the crate in rust/ have the same.
 const VERSION: u32 = 200;
@@ -96,7 +96,7 @@ pub struct Answered {
 const MATCHED: usize = 0;
 
 // The answer as numbers.
-fn face(answer: Answer) -> Answered
+fn exported(answer: Answer) -> Answered
     ensures { λ r. ⌜ r ≡ answered-of (answer-of answer) ⌝ }
 {
     match answer {
@@ -142,7 +142,7 @@ pub extern "C" fn hemokatu_decode(
     ids: &mut [u64],
     lengths: &mut [f64],
 ) -> Answered
-    ensures { λ r. ⌜ Answers r (now (ids .exit)) (now (lengths .exit))
+    ensures { λ r. ⌜ AnsweredAs r (now (ids .exit)) (now (lengths .exit))
         (decode (now (sheet .entry)) (lent record {
           labels = length (now (labels .entry));
           came-from = length (now («came_from» .entry));
@@ -164,7 +164,7 @@ pub extern "C" fn hemokatu_decode(
         ids,
         lengths,
     );
-    face(found)
+    exported(found)
 }
 
 // What a path costs at a tariff: the class and the length in metres of each road, in two lists that are only read.

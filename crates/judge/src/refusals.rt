@@ -47,7 +47,7 @@ fn two_points(before: bool, kind: usize, p: usize) -> bool
 }
 
 // `before`, and the u32 at `at` is v.
-fn holds(before: bool, s: &[u8], at: usize, v: usize) -> bool
+fn field_is(before: bool, s: &[u8], at: usize, v: usize) -> bool
     requires { ⌜ at + 4 ≤ length (now s) ⌝ }
     ensures { λ r. ⌜ r ≡ (before && eqb (u32-at (now (s .entry)) at) v) ⌝ }
 {
@@ -72,15 +72,15 @@ fn offsets_good(s: &[u8], c: Counts) -> bool
     ensures { λ r. ⌜ r ≡ offsets-good (now (s .entry)) c ⌝ }
 {
     let total = layout::total(c);
-    let v = holds(true, s, 24, 56);
-    let v = holds(v, s, 28, 168);
-    let v = holds(v, s, 32, layout::roads_at(c));
-    let v = holds(v, s, 36, layout::lists_at(c));
-    let v = holds(v, s, 40, layout::rows_at(c));
-    let v = holds(v, s, 44, layout::distances_at(c));
-    let v = holds(v, s, 48, total);
+    let v = field_is(true, s, 24, 56);
+    let v = field_is(v, s, 28, 168);
+    let v = field_is(v, s, 32, layout::roads_at(c));
+    let v = field_is(v, s, 36, layout::lists_at(c));
+    let v = field_is(v, s, 40, layout::rows_at(c));
+    let v = field_is(v, s, 44, layout::distances_at(c));
+    let v = field_is(v, s, 48, total);
     let v = same(v, total, s.len());
-    holds(v, s, 52, 0)
+    field_is(v, s, 52, 0)
 }
 
 // Refusal 4.

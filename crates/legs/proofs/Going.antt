@@ -10,33 +10,33 @@ use lib.ListN.{length, drop, getD, drop-of-length-le}
 use lib.Seq.{drop-cons}
 use Rattle.model.specs.declared.Limits.{Limits}
 use Rattle.model.specs.Numbers.{_≤ᶠ_}
-use Rattle.model.specs.Legs.{Pair, Scored, Seek, Turn, best-score, sought, next-pair, try-pair, end-or-try, try-pairs}
+use Rattle.model.specs.Legs.{Pair, Scored, MiddleSearch, Turn, best-score, leg-end, next-pair, try-pair, end-or-try, try-pairs}
 use Rattle.rules.specs.declared.Best.{Best}
-use Rattle.rules.specs.Code.{best-of, Stands}
+use Rattle.rules.specs.Code.{best-of, BestIs}
 use Rattle.plans.specs.declared.Phase.{Phase}
 use Rattle.plans.specs.declared.Phase.the-variants as H
-use Rattle.plans.specs.declared.State.{State}
+use Rattle.plans.specs.declared.PairTurn.{PairTurn}
 use Rattle.plans.specs.Turns.{turn-of, Remembers}
-use Rattle.legs.specs.Found.{end-of, place-after}
+use Rattle.legs.specs.Found.{end-after-pairs, place-after}
 
-module _ (b : Limits) (seek : Seek) (ps : List Pair) where
+module _ (b : Limits) (search : MiddleSearch) (ps : List Pair) where
   -- pair t is next, of n; the best so far remembers its search between two of the nodes
-  pub record Good (nodes n : ℕ) (st : State) (t : ℕ) : Type 0 where
+  pub record Good (nodes n : ℕ) (st : PairTurn) (t : ℕ) : Type 0 where
     pub in-range : t ≤ n
     pub running : t < n → st .phase ≡ H.On
-    pub remembers : Remembers seek nodes (st .best .route .middle)
-    pub means : next-pair (turn-of (st .phase) (best-of seek (st .best))) (try-pairs b seek (drop t ps)) ≡ try-pairs b seek ps none
+    pub remembers : Remembers search nodes (st .best .route .middle)
+    pub means : next-pair (turn-of (st .phase) (best-of search (st .best))) (try-pairs b search (drop t ps)) ≡ try-pairs b search ps none
 
-  pub good-start : (nodes n : ℕ) (unset : Best) → Stands unset none → unset .route .middle .count ≡ 0 → Good nodes n (record { phase = H.On; best = unset }) 0
+  pub good-start : (nodes n : ℕ) (unset : Best) → BestIs unset none → unset .route .middle .count ≡ 0 → Good nodes n (record { phase = H.On; best = unset }) 0
   unfolding next-pair turn-of
   good-start nodes n unset is empty = record {
     in-range = omega arith;
     running = λ h. refl;
     remembers = λ some. absurd (omega arith);
-    means = ap (try-pairs b seek ps) (is seek);
+    means = ap (try-pairs b search ps) (is search);
   }
 
-  module _ (nodes n : ℕ) (long : length ps ≡ n) (st : State) (t : ℕ) (good : Good nodes n st t) (h : t < n) where
+  module _ (nodes n : ℕ) (long : length ps ≡ n) (st : PairTurn) (t : ℕ) (good : Good nodes n st t) (h : t < n) where
     pub nearer : (ph : Phase) → n - place-after ph t n < n - t
     unfolding place-after
     nearer H.On = omega arith
@@ -44,25 +44,25 @@ module _ (b : Limits) (seek : Seek) (ps : List Pair) where
 
     module _ (p d : Pair) (is : p ≡ getD ps t d) where
       abbrev stop : Bool
-      stop = best-score (best-of seek (st .best)) ≤ᶠ p .sum
+      stop = best-score (best-of search (st .best)) ≤ᶠ p .sum
 
-      one-on : next-pair (end-or-try stop b seek (best-of seek (st .best)) p) (try-pairs b seek (drop (suc t) ps)) ≡ try-pairs b seek ps none
+      one-on : next-pair (end-or-try stop b search (best-of search (st .best)) p) (try-pairs b search (drop (suc t) ps)) ≡ try-pairs b search ps none
       unfolding try-pairs next-pair turn-of
       one-on =
           let split : drop t ps ≡ p ∷ drop (suc t) ps = drop-cons ps t d (omega arith) ∙ rw is in
-          ap (λ (l : List Pair). try-pairs b seek l (best-of seek (st .best))) (sym split)
+          ap (λ (l : List Pair). try-pairs b search l (best-of search (st .best))) (sym split)
           ∙ (rw (good .running h) at (good .means))
 
       -- a pair whose sum reaches the best score ends them
-      pub good-enough : stop ≡ true → end-of seek st ≡ try-pairs b seek ps none
-      unfolding end-of next-pair turn-of end-or-try
+      pub good-enough : stop ≡ true → end-after-pairs search st ≡ try-pairs b search ps none
+      unfolding end-after-pairs next-pair turn-of end-or-try
       good-enough e =
-          ap (λ (ph : Phase). next-pair (turn-of ph (best-of seek (st .best))) sought) (good .running h)
-          ∙ ap (λ (w : Bool). next-pair (end-or-try w b seek (best-of seek (st .best)) p) (try-pairs b seek (drop (suc t) ps))) (sym e)
+          ap (λ (ph : Phase). next-pair (turn-of ph (best-of search (st .best))) leg-end) (good .running h)
+          ∙ ap (λ (w : Bool). next-pair (end-or-try w b search (best-of search (st .best)) p) (try-pairs b search (drop (suc t) ps))) (sym e)
           ∙ one-on
 
       -- after the pair, by how it goes on
-      after : (ph : Phase) (x : Option Scored) → next-pair (turn-of ph x) (try-pairs b seek (drop (suc t) ps)) ≡ next-pair (turn-of ph x) (try-pairs b seek (drop (place-after ph t n) ps))
+      after : (ph : Phase) (x : Option Scored) → next-pair (turn-of ph x) (try-pairs b search (drop (suc t) ps)) ≡ next-pair (turn-of ph x) (try-pairs b search (drop (place-after ph t n) ps))
       unfolding next-pair turn-of place-after
       after H.On x = rw (add-one t)
       after H.Full x = refl
@@ -77,17 +77,17 @@ module _ (b : Limits) (seek : Seek) (ps : List Pair) where
       goes H.On g = refl
       goes H.Full g = absurd (omega arith)
 
-      pub good-turn : stop ≡ false → (r : State) → turn-of (r .phase) (best-of seek (r .best)) ≡ try-pair b seek (best-of seek (st .best)) p → Remembers seek nodes (r .best .route .middle)
+      pub good-turn : stop ≡ false → (r : PairTurn) → turn-of (r .phase) (best-of search (r .best)) ≡ try-pair b search (best-of search (st .best)) p → Remembers search nodes (r .best .route .middle)
           → Good nodes n r (place-after (r .phase) t n)
       unfolding end-or-try
       good-turn e r turned remembers = record {
         in-range = ranged (r .phase);
         running = goes (r .phase);
         remembers = remembers;
-        means = sym (after (r .phase) (best-of seek (r .best))) ∙ ap (λ (w : Turn). next-pair w (try-pairs b seek (drop (suc t) ps))) (turned ∙ ap (λ (w : Bool). end-or-try w b seek (best-of seek (st .best)) p) (sym e)) ∙ one-on;
+        means = sym (after (r .phase) (best-of search (r .best))) ∙ ap (λ (w : Turn). next-pair w (try-pairs b search (drop (suc t) ps))) (turned ∙ ap (λ (w : Bool). end-or-try w b search (best-of search (st .best)) p) (sym e)) ∙ one-on;
       }
 
-  pub good-end : (nodes n : ℕ) → length ps ≡ n → (st : State) (t : ℕ) → Good nodes n st t → n ≤ t → end-of seek st ≡ try-pairs b seek ps none
-  unfolding end-of try-pairs
+  pub good-end : (nodes n : ℕ) → length ps ≡ n → (st : PairTurn) (t : ℕ) → Good nodes n st t → n ≤ t → end-after-pairs search st ≡ try-pairs b search ps none
+  unfolding end-after-pairs try-pairs
   good-end nodes n long st t good h =
-      ap (λ (l : List Pair). next-pair (turn-of (st .phase) (best-of seek (st .best))) (try-pairs b seek l)) (sym (drop-of-length-le ps {i = t} (omega arith))) ∙ good .means
+      ap (λ (l : List Pair). next-pair (turn-of (st .phase) (best-of search (st .best))) (try-pairs b search l)) (sym (drop-of-length-le ps {i = t} (omega arith))) ∙ good .means

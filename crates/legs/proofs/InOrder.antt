@@ -15,7 +15,7 @@ use Rattle.model.specs.Sheet.{Sheet}
 use Rattle.model.specs.Legs.{Pair, pair, pairs, leg-pairs, by-sum}
 use Rattle.bounds.proofs.Choices.{below-or-not}
 use Rattle.candidates.specs.declared.find.Candidates.{Candidates}
-use Rattle.candidates.specs.Found.{no-candidate, item-at, held, Ready}
+use Rattle.candidates.specs.Found.{no-candidate, item-at, held, CandidatesReady}
 use Rattle.candidates.proofs.Held.{held-long, held-at}
 use Rattle.pairs.specs.Left.{left, Rising, ScoresOf}
 use Rattle.pairs.proofs.PairLaws.{hundred, pairs-long}
@@ -53,7 +53,7 @@ filled-more xs by k l f =
           (below-or-not j k);
     }
 
-module _ (s : Sheet) (c : Counts) (xs : Candidates) (ready : Ready c xs) where
+module _ (s : Sheet) (c : Counts) (xs : Candidates) (ready : CandidatesReady c xs) where
   score-is : (k : ℕ) → k < xs .count → item-at xs k .score ≡ getD (held s xs) k no-candidate .score
   score-is k l = ap (λ (y : Candidate). y .score) (sym (held-at s xs (ready .room) k l))
 
@@ -65,7 +65,7 @@ module _ (s : Sheet) (c : Counts) (xs : Candidates) (ready : Ready c xs) where
         rise = λ j k g l. rw (sym (score-is j (omega arith)), sym (score-is k (omega arith))) (ready .rise j k g (omega arith));
       }
 
-module _ (s : Sheet) (c : Counts) (starts ends : Candidates) (la : Ready c starts) (lb : Ready c ends) where
+module _ (s : Sheet) (c : Counts) (starts ends : Candidates) (la : CandidatesReady c starts) (lb : CandidatesReady c ends) where
   pub few : starts .count * ends .count ≤ 100
   few = hundred (starts .count) (ends .count) (la .few) (lb .few)
 

@@ -5,58 +5,58 @@ pub mod tries;
 use candidates::find::Candidates;
 use model::Counts;
 use model::Limits;
+use plans::PairTurn;
 use plans::Phase;
-use plans::State;
 use rules::Best;
 use rules::Middle;
-use rules::Route;
+use rules::PathResult;
 use rules::routes;
 use rules::same_edge;
 ghost use mathlib.Core.Path.{_≡_};
 ghost use Prim.Native.Nat.{ℕ, _<_};
 ghost use Rattle.model.specs.Judge.{WellFormed};
 ghost use Rattle.model.specs.Sheet.{sheet-of};
-ghost use Rattle.model.specs.Legs.{Seek, sought, find-best-path};
-ghost use Rattle.candidates.specs.Found.{held, Ready};
+ghost use Rattle.model.specs.Legs.{MiddleSearch, leg-end, find-best-path};
+ghost use Rattle.candidates.specs.Found.{held, CandidatesReady};
 ghost use Rattle.rules.specs.Code.{best-of};
 ghost use Rattle.plans.specs.Turns.{Remembers};
 ghost use Rattle.search.specs.Areas.{SearchRoom};
-ghost use Rattle.legs.specs.Found.{seek-at, end-of, sought-of, winner-of, Priced, Led};
+ghost use Rattle.legs.specs.Found.{middle-search-at, end-after-pairs, leg-end-of, winner-of, Priced, Led};
 
 // What a leg finds: its best route, whose middle its search finds; no path; or the heap used up.
-pub enum Sought {
-    Best(Route),
+pub enum LegEnd {
+    Best(PathResult),
     NoPath,
     HeapFull,
 }
 
 // The best route, if there is one.
-fn best_or_none(best: Best) -> Sought
-    ensures means { λ r. ⌜ ((seek : Seek) → sought-of seek r ≡ sought (best-of seek best)) ⌝ }
-    ensures remembers { λ r. ⌜ ((seek : Seek) (n : ℕ) → Remembers seek n (best .route .middle) → Remembers seek n (winner-of r)) ⌝ }
+fn best_or_none(best: Best) -> LegEnd
+    ensures means { λ r. ⌜ ((search : MiddleSearch) → leg-end-of search r ≡ leg-end (best-of search best)) ⌝ }
+    ensures remembers { λ r. ⌜ ((search : MiddleSearch) (n : ℕ) → Remembers search n (best .route .middle) → Remembers search n (winner-of r)) ⌝ }
 {
     if best.found {
-        let route = best.route;
-        return Sought::Best(route);
+        let route = best.path;
+        return LegEnd::Best(route);
     }
-    Sought::NoPath
+    LegEnd::NoPath
 }
 
 // How a leg ends, by the state after its pairs.
-fn ended(st: State) -> Sought
-    ensures means { λ r. ⌜ ((seek : Seek) → sought-of seek r ≡ end-of seek st) ⌝ }
-    ensures remembers { λ r. ⌜ ((seek : Seek) (n : ℕ) → Remembers seek n (st .best .route .middle) → Remembers seek n (winner-of r)) ⌝ }
+fn after_pairs(st: PairTurn) -> LegEnd
+    ensures means { λ r. ⌜ ((search : MiddleSearch) → leg-end-of search r ≡ end-after-pairs search st) ⌝ }
+    ensures remembers { λ r. ⌜ ((search : MiddleSearch) (n : ℕ) → Remembers search n (st .best .route .middle) → Remembers search n (winner-of r)) ⌝ }
 {
     let phase = st.phase;
     let best = st.best;
     match phase {
         Phase::On => best_or_none(best),
-        Phase::Full => Sought::HeapFull,
+        Phase::Full => LegEnd::HeapFull,
     }
 }
 
 // The middle of the route that a leg found; without roads where it found none.
-fn winner(found: Sought) -> Middle
+fn winner(found: LegEnd) -> Middle
     ensures { λ m. ⌜ m ≡ winner-of found ⌝ }
 {
     let none = Middle {
@@ -66,9 +66,9 @@ fn winner(found: Sought) -> Middle
         count: 0,
     };
     match found {
-        Sought::Best(route) => route.middle,
-        Sought::NoPath => none,
-        Sought::HeapFull => none,
+        LegEnd::Best(route) => route.middle,
+        LegEnd::NoPath => none,
+        LegEnd::HeapFull => none,
     }
 }
 
@@ -84,17 +84,17 @@ pub fn find_best_path(
     came_from: &mut [usize],
     entries: &mut [f64],
     links: &mut [usize],
-) -> Sought
-    requires { ⌜ WellFormed (now s) c × Priced b × (0 < c .n) × Ready c starts × Ready c ends ⌝ }
+) -> LegEnd
+    requires { ⌜ WellFormed (now s) c × Priced b × (0 < c .n) × CandidatesReady c starts × CandidatesReady c ends ⌝ }
     requires { ⌜ SearchRoom (c .n) slots (now labels) (now «came_from») (now entries) (now links) ⌝ }
-    ensures means { λ r. ⌜ sought-of (seek-at (sheet-of (now (s .entry)) c) slots b) r
-        ≡ find-best-path b (seek-at (sheet-of (now (s .entry)) c) slots b) (held (sheet-of (now (s .entry)) c) starts) (held (sheet-of (now (s .entry)) c) ends) ⌝ }
-    ensures led { λ r. ⌜ Led (sheet-of (now (s .entry)) c) c (seek-at (sheet-of (now (s .entry)) c) slots b) (now («came_from» .exit)) (winner-of r) ⌝ }
+    ensures means { λ r. ⌜ leg-end-of (middle-search-at (sheet-of (now (s .entry)) c) slots b) r
+        ≡ find-best-path b (middle-search-at (sheet-of (now (s .entry)) c) slots b) (held (sheet-of (now (s .entry)) c) starts) (held (sheet-of (now (s .entry)) c) ends) ⌝ }
+    ensures led { λ r. ⌜ Led (sheet-of (now (s .entry)) c) c (middle-search-at (sheet-of (now (s .entry)) c) slots b) (now («came_from» .exit)) (winner-of r) ⌝ }
 {
     let same = same_edge::try_same_edge_solution(s, c, b, starts, ends);
     if same.found {
-        let alone = routes::without_middle(same);
-        return best_or_none(alone);
+        let single = routes::without_middle(same);
+        return best_or_none(single);
     }
     let st = tries::try_pairs(
         s,
@@ -108,7 +108,7 @@ pub fn find_best_path(
         entries,
         links,
     );
-    let found = ended(st);
+    let found = after_pairs(st);
     let m = winner(found);
     middle::search_again(s, c, b, m, slots, labels, came_from, entries, links);
     found

@@ -5,8 +5,8 @@ use candidates::find::Candidates;
 use candidates::find::MOST_TRIED;
 use model::Counts;
 use model::Limits;
+use plans::PairTurn;
 use plans::Phase;
-use plans::State;
 use plans::turns;
 use rules::Best;
 use rules::routes;
@@ -18,13 +18,13 @@ ghost use Rattle.model.specs.Lists.{sort};
 ghost use Rattle.model.specs.Judge.{WellFormed};
 ghost use Rattle.model.specs.Sheet.{sheet-of};
 ghost use Rattle.model.specs.Legs.{pair, pairs, by-sum, try-pair, try-pairs};
-ghost use Rattle.candidates.specs.Found.{at-road, held, Ready};
+ghost use Rattle.candidates.specs.Found.{at-road, held, CandidatesReady};
 ghost use Rattle.rules.specs.Code.{best-of};
 ghost use Rattle.plans.specs.Turns.{turn-of, Remembers};
 ghost use Rattle.search.specs.Areas.{SearchRoom};
-ghost use Rattle.legs.specs.Found.{seek-at, end-of, place-after, Priced};
+ghost use Rattle.legs.specs.Found.{middle-search-at, end-after-pairs, place-after, Priced};
 
-// One pair: what it asks for, the search if it asks for one, and what comes of it. The best so far remembers its search.
+// One pair: its plan, the search if it needs one, and what comes of it. The best so far remembers its search.
 pub fn try_pair(
     s: &[u8],
     c: Counts,
@@ -37,19 +37,19 @@ pub fn try_pair(
     came_from: &mut [usize],
     entries: &mut [f64],
     links: &mut [usize],
-) -> State
-    requires { ⌜ WellFormed (now s) c × Priced b × (start .road < c .e) × (end .road < c .e) ⌝ }
+) -> PairTurn
+    requires { ⌜ WellFormed (now s) c × Priced b × (start .«edge_idx» < c .e) × (end .«edge_idx» < c .e) ⌝ }
     requires { ⌜ SearchRoom (c .n) slots (now labels) (now «came_from») (now entries) (now links) ⌝ }
-    ensures means { λ t. ⌜ turn-of (t .phase) (best-of (seek-at (sheet-of (now (s .entry)) c) slots b) (t .best))
-        ≡ try-pair b (seek-at (sheet-of (now (s .entry)) c) slots b) (best-of (seek-at (sheet-of (now (s .entry)) c) slots b) best) (pair (at-road (sheet-of (now (s .entry)) c) start) (at-road (sheet-of (now (s .entry)) c) end)) ⌝ }
-    ensures remembers { λ t. ⌜ (Remembers (seek-at (sheet-of (now (s .entry)) c) slots b) (c .n) (best .route .middle) → Remembers (seek-at (sheet-of (now (s .entry)) c) slots b) (c .n) (t .best .route .middle)) ⌝ }
+    ensures means { λ t. ⌜ turn-of (t .phase) (best-of (middle-search-at (sheet-of (now (s .entry)) c) slots b) (t .best))
+        ≡ try-pair b (middle-search-at (sheet-of (now (s .entry)) c) slots b) (best-of (middle-search-at (sheet-of (now (s .entry)) c) slots b) best) (pair (at-road (sheet-of (now (s .entry)) c) start) (at-road (sheet-of (now (s .entry)) c) end)) ⌝ }
+    ensures remembers { λ t. ⌜ (Remembers (middle-search-at (sheet-of (now (s .entry)) c) slots b) (c .n) (best .route .middle) → Remembers (middle-search-at (sheet-of (now (s .entry)) c) slots b) (c .n) (t .best .route .middle)) ⌝ }
 {
-    let from = start.road;
-    let to = end.road;
+    let from = start.edge_idx;
+    let to = end.edge_idx;
     let first = roads::road(s, c, from);
     let last = roads::road(s, c, to);
-    let p = turns::plan(b, start, first, end, last);
-    let a = turns::ask(p);
+    let p = turns::plan_pair(b, start, first, end, last);
+    let a = turns::search_need(p);
     let m = middle::middle(
         s,
         c,
@@ -63,7 +63,7 @@ pub fn try_pair(
         entries,
         links,
     );
-    turns::settle(b, start, first, end, last, best, p, m)
+    turns::finish_pair(b, start, first, end, last, best, p, m)
 }
 
 // The place of the next pair among n: past the last one where the leg is decided.
@@ -89,12 +89,12 @@ pub fn try_pairs(
     came_from: &mut [usize],
     entries: &mut [f64],
     links: &mut [usize],
-) -> State
-    requires { ⌜ WellFormed (now s) c × Priced b × Ready c starts × Ready c ends ⌝ }
+) -> PairTurn
+    requires { ⌜ WellFormed (now s) c × Priced b × CandidatesReady c starts × CandidatesReady c ends ⌝ }
     requires { ⌜ SearchRoom (c .n) slots (now labels) (now «came_from») (now entries) (now links) ⌝ }
-    ensures means { λ t. ⌜ end-of (seek-at (sheet-of (now (s .entry)) c) slots b) t
-        ≡ try-pairs b (seek-at (sheet-of (now (s .entry)) c) slots b) (sort by-sum (pairs (held (sheet-of (now (s .entry)) c) starts) (held (sheet-of (now (s .entry)) c) ends))) none ⌝ }
-    ensures remembers { λ t. ⌜ Remembers (seek-at (sheet-of (now (s .entry)) c) slots b) (c .n) (t .best .route .middle) ⌝ }
+    ensures means { λ t. ⌜ end-after-pairs (middle-search-at (sheet-of (now (s .entry)) c) slots b) t
+        ≡ try-pairs b (middle-search-at (sheet-of (now (s .entry)) c) slots b) (sort by-sum (pairs (held (sheet-of (now (s .entry)) c) starts) (held (sheet-of (now (s .entry)) c) ends))) none ⌝ }
+    ensures remembers { λ t. ⌜ Remembers (middle-search-at (sheet-of (now (s .entry)) c) slots b) (c .n) (t .best .route .middle) ⌝ }
 {
     let count = starts.count * ends.count;
     let mut by_start = [0.0; MOST_TRIED];
@@ -109,7 +109,7 @@ pub fn try_pairs(
     }
     let mut heads = [0usize; MOST_TRIED];
     let unset = routes::no_best();
-    let mut st = State {
+    let mut st = PairTurn {
         phase: Phase::On,
         best: unset,
     };

@@ -15,29 +15,29 @@ use Rattle.model.specs.declared.Limits.{Limits}
 use Rattle.model.specs.Layout.{points-bytes}
 use Rattle.model.specs.Lists.{last}
 use Rattle.model.specs.Judge.{WellFormed}
-use Rattle.model.specs.Sheet.{Stop, Sheet, sheet-of, road-at, point-of, stop-of}
+use Rattle.model.specs.Sheet.{MeasuredPoint, Sheet, sheet-of, road-at, point-of, measured-point}
 use Rattle.model.specs.View.{limits-of}
-use Rattle.model.specs.Legs.{Coverage, Pair, pairs, leg-pairs, try-same-edge-solution, else-pairs, find-best-path}
+use Rattle.model.specs.Legs.{EdgeCoverage, Pair, pairs, leg-pairs, try-same-edge-solution, else-pairs, find-best-path}
 use Rattle.model.specs.Legs as model
-use Rattle.model.proofs.Parsed.{stop-is}
-use Rattle.candidates.specs.Found.{no-stop, candidates-at, tried-at}
-use Rattle.rules.specs.declared.Route.{Route}
-use Rattle.rules.specs.Code.{part-of, with-middle}
-use Rattle.legs.specs.declared.Sought as legs
-use Rattle.legs.specs.declared.Sought.the-variants as S
-use Rattle.legs.specs.Found.{seek-at, Priced}
-use Rattle.search.specs.Answers.{Numbers}
+use Rattle.model.proofs.Parsed.{measured-point-is}
+use Rattle.candidates.specs.Found.{no-point, candidates-at, tried-at}
+use Rattle.rules.specs.declared.PathResult.{PathResult}
+use Rattle.rules.specs.Code.{terminal-of, with-middle}
+use Rattle.legs.specs.declared.LegEnd as legs
+use Rattle.legs.specs.declared.LegEnd.the-variants as S
+use Rattle.legs.specs.Found.{middle-search-at, Priced}
+use Rattle.search.specs.Answers.{RoadNumbers}
 use Rattle.search.proofs.Roads.{slip-amount, access-amount}
-use Rattle.courses.specs.Left.{path-of, covers, middle-numbers, Walkable, size-of, Known, numbers, numbers-of, fresh, Appended, coverages-at, cover-all}
+use Rattle.courses.specs.Left.{path-of, covers, middle-numbers, Walkable, size-of, Known, coverage-numbers, numbers-of, unwritten, Appended, coverages-at, cover-all}
 use Rattle.courses.proofs.Lookup.{numbers-long, numbers-size, size-few}
 use Rattle.courses.proofs.Appended.{numbers-are, numbers-of-roads}
-use Rattle.lines.specs.declared.LegEnd.the-variants as E
-use Rattle.lines.specs.Legs.{leg-limits, leg-sought, sought-by, KnownAs, Leaves}
+use Rattle.lines.specs.declared.LegWritten.the-variants as E
+use Rattle.lines.specs.Legs.{leg-limits, leg-end-from, sought-by, KnownAs, LegEndWritten}
 
 -- the point of the leg's start
 pub limits-are : (s : List ℕ) (c : Counts) (i : ℕ) → i < c .p → (p : Point) → p ≡ point-of (points-bytes s c) i → limits-of (sheet-of s c .settings) p ≡ leg-limits (sheet-of s c) i
-unfolding stop-of
-limits-are s c i h p is = ap (limits-of (sheet-of s c .settings)) (is ∙ ap (λ (x : Stop). x .point) (sym (stop-is s c i h no-stop)))
+unfolding measured-point
+limits-are s c i h p is = ap (limits-of (sheet-of s c .settings)) (is ∙ ap (λ (x : MeasuredPoint). x .point) (sym (measured-point-is s c i h no-point)))
 
 -- its penalties are those of the settings, which are amounts
 pub priced : (s : List ℕ) (c : Counts) → WellFormed s c → (i : ℕ) {b : Limits} → b ≡ leg-limits (sheet-of s c) i → Priced b
@@ -49,28 +49,28 @@ same-pairs : (xs ys : List Candidate) → leg-pairs (take 10 xs) (take 10 ys) �
 same-pairs xs ys = ap (λ (l : List Candidate). pairs l (take 10 (take 10 ys))) (take-take 10 10 xs (le-refl 10)) ∙ ap (pairs (take 10 xs)) (take-take 10 10 ys (le-refl 10))
 
 -- what a leg finds, with its limits and its candidates at hand
-pub sought-is : (t : Sheet) (slots i : ℕ) {b : Limits} {xs ys : List Candidate} → b ≡ leg-limits t i → xs ≡ tried-at t i → ys ≡ tried-at t (i + 1)
-    → find-best-path b (seek-at t slots b) xs ys ≡ leg-sought t slots i
-unfolding leg-sought find-best-path
-sought-is t slots i {b} {xs} {ys} limits start end =
-    let seek = seek-at t slots b in
-    ap (λ (l : List Candidate). find-best-path b seek l ys) start ∙ ap (find-best-path b seek (tried-at t i)) end
-    ∙ ap (λ (ps : List Pair). else-pairs b seek ps (try-same-edge-solution b ps)) (same-pairs (candidates-at t i) (candidates-at t (i + 1)))
+pub leg-end-is : (t : Sheet) (slots i : ℕ) {b : Limits} {xs ys : List Candidate} → b ≡ leg-limits t i → xs ≡ tried-at t i → ys ≡ tried-at t (i + 1)
+    → find-best-path b (middle-search-at t slots b) xs ys ≡ leg-end-from t slots i
+unfolding leg-end-from find-best-path
+leg-end-is t slots i {b} {xs} {ys} limits start end =
+    let search = middle-search-at t slots b in
+    ap (λ (l : List Candidate). find-best-path b search l ys) start ∙ ap (find-best-path b search (tried-at t i)) end
+    ∙ ap (λ (ps : List Pair). else-pairs b search ps (try-same-edge-solution b ps)) (same-pairs (candidates-at t i) (candidates-at t (i + 1)))
     ∙ rw limits
 
-pub known-route : (t : Sheet) (c : Counts) (x : legs.Sought) (came : List ℕ) (r : Route) → x ≡ S.Best r → KnownAs t c x came → Known t c r (middle-numbers t came (r .middle)) × Walkable t c came (r .middle)
+pub known-route : (t : Sheet) (c : Counts) (x : legs.LegEnd) (came : List ℕ) (r : PathResult) → x ≡ S.Best r → KnownAs t c x came → Known t c r (middle-numbers t came (r .middle)) × Walkable t c came (r .middle)
 unfolding KnownAs
 known-route t c x came r is k = rw is at k
 
-pub leaves-as : (t : Sheet) (c : Counts) (summed : Bool) (n : ℕ) (ids : List ℕ) (ks : List Coverage) (n0 : ℕ) (ids₁ covered : List ℕ) (coverage : List Float) (e : E.the-data) {b b₁ : Limits} {so so₁ : model.Sought}
-    → b ≡ b₁ → so ≡ so₁ → Leaves t c summed (b .dnp) n ids ks n0 so ids₁ covered coverage e → Leaves t c summed (b₁ .dnp) n ids ks n0 so₁ ids₁ covered coverage e
-leaves-as t c summed n ids ks n0 ids₁ covered coverage e {b} {b₁} {so} {so₁} limits finds left =
-    subst (λ (x : Limits). Leaves t c summed (x .dnp) n ids ks n0 so₁ ids₁ covered coverage e) limits (subst (λ (x : model.Sought). Leaves t c summed (b .dnp) n ids ks n0 x ids₁ covered coverage e) finds left)
+pub leg-written-as : (t : Sheet) (c : Counts) (summed : Bool) (n : ℕ) (ids : List ℕ) (ks : List EdgeCoverage) (n0 : ℕ) (ids₁ covered : List ℕ) (coverage : List Float) (e : E.the-data) {b b₁ : Limits} {so so₁ : model.LegEnd}
+    → b ≡ b₁ → so ≡ so₁ → LegEndWritten t c summed (b .dnp) n ids ks n0 so ids₁ covered coverage e → LegEndWritten t c summed (b₁ .dnp) n ids ks n0 so₁ ids₁ covered coverage e
+leg-written-as t c summed n ids ks n0 ids₁ covered coverage e {b} {b₁} {so} {so₁} limits finds left =
+    subst (λ (x : Limits). LegEndWritten t c summed (x .dnp) n ids ks n0 so₁ ids₁ covered coverage e) limits (subst (λ (x : model.LegEnd). LegEndWritten t c summed (b .dnp) n ids ks n0 x ids₁ covered coverage e) finds left)
 
 -- ---- the middle in the list
 
 -- behind the first road of the leg stands its middle
-module _ (t : Sheet) (c : Counts) (r : Route) (ks : List ℕ) (known : Known t c r ks) (ids : List ℕ) (n : ℕ) (ids₁ : List ℕ) (from : ℕ) (put : Appended ids n (numbers-of r ks) ids₁ from) (first : ℕ) (is : first ≡ length (part-of (r .head))) where
+module _ (t : Sheet) (c : Counts) (r : PathResult) (ks : List ℕ) (known : Known t c r ks) (ids : List ℕ) (n : ℕ) (ids₁ : List ℕ) (from : ℕ) (put : Appended ids n (numbers-of r ks) ids₁ from) (first : ℕ) (is : first ≡ length (terminal-of (r .head))) where
   abbrev count : ℕ
   count = r .middle .count
 
@@ -81,10 +81,10 @@ module _ (t : Sheet) (c : Counts) (r : Route) (ks : List ℕ) (known : Known t c
   inner : take count (drop first (numbers-of r ks)) ≡ take count ks
   unfolding numbers-of
   inner =
-      let a = numbers (part-of (r .head)) in
-      let d = numbers (part-of (r .tail)) in
+      let a = coverage-numbers (terminal-of (r .head)) in
+      let d = coverage-numbers (terminal-of (r .tail)) in
       let ms = take count ks in
-      let a-long : length a ≡ first = numbers-long (part-of (r .head)) ∙ sym is in
+      let a-long : length a ≡ first = numbers-long (terminal-of (r .head)) ∙ sym is in
       ap (λ (l : List ℕ). take count (drop first l)) (append-assoc a ms d)
       ∙ ap (take count) (drop-at a (ms ++ d) first a-long)
       ∙ take-at ms d count (length-take-le count ks (known .room))
@@ -128,26 +128,26 @@ module _ (t : Sheet) (c : Counts) (r : Route) (ks : List ℕ) (known : Known t c
   pub covers-tail : covers t r tail ≡ covers t r ks
   covers-tail = ap (covers t r) (sym tail-is) ∙ ap (λ (l : List ℕ). with-middle r (map (road-at t) l) .coverages) middle-there
 
-module _ (s : List ℕ) (c : Counts) (summed : Bool) (dnp : Float) (n : ℕ) (ids : List ℕ) (ks : List Coverage) (n0 : ℕ) (x : legs.Sought) (came ids₁ covered : List ℕ) (coverage : List Float) where
+module _ (s : List ℕ) (c : Counts) (summed : Bool) (dnp : Float) (n : ℕ) (ids : List ℕ) (ks : List EdgeCoverage) (n0 : ℕ) (x : legs.LegEnd) (came ids₁ covered : List ℕ) (coverage : List Float) where
   abbrev t : Sheet
   t = sheet-of s c
 
   abbrev pub Left-by : E.the-data → Type 0
-  Left-by = Leaves (sheet-of s c) c summed dnp n ids ks n0 (sought-by (sheet-of s c) came x) ids₁ covered coverage
+  Left-by = LegEndWritten (sheet-of s c) c summed dnp n ids ks n0 (sought-by (sheet-of s c) came x) ids₁ covered coverage
 
-  pub leaves-route : (r : Route) → x ≡ S.Best r → Known (sheet-of s c) c r (middle-numbers (sheet-of s c) came (r .middle)) → (from count : ℕ)
+  pub leg-written-route : (r : PathResult) → x ≡ S.Best r → Known (sheet-of s c) c r (middle-numbers (sheet-of s c) came (r .middle)) → (from count : ℕ)
       → Appended ids n (numbers-of r (middle-numbers (sheet-of s c) came (r .middle))) ids₁ from
-      → count ≤ n0 + c .n + 1 → Numbers (c .e) count covered → coverages-at (sheet-of s c) count covered coverage ≡ cover-all summed ks (covers (sheet-of s c) r (middle-numbers (sheet-of s c) came (r .middle)))
-      → Left-by (E.Walked record { written = from + size-of r - n; covered = count; segment = record { «length_m» = r .total; «expected_m» = dnp; «start_offset» = r .«start_offset»; «end_offset» = r .«end_offset» } })
-  unfolding Leaves sought-by
-  leaves-route r is known from count put most below coverages =
+      → count ≤ n0 + c .n + 1 → RoadNumbers (c .e) count covered → coverages-at (sheet-of s c) count covered coverage ≡ cover-all summed ks (covers (sheet-of s c) r (middle-numbers (sheet-of s c) came (r .middle)))
+      → Left-by (E.Written record { written = from + size-of r - n; covered = count; segment = record { «length_m» = r .«total_length»; «expected_m» = dnp; «start_offset_m» = r .«start_offset_m»; «end_offset_m» = r .«end_offset_m» } })
+  unfolding LegEndWritten sought-by
+  leg-written-route r is known from count put most below coverages =
       let area = middle-numbers t came (r .middle) in
       let long = numbers-size r area (known .room) in
       let end : n + (from + size-of r - n) ≡ from + length (numbers-of r area) = omega (arith, long, put .behind) in (
         path-of t r area,
         rw is,
         record {
-          roads = ap (λ (m : ℕ). take m ids₁) end ∙ put .path ∙ ap (λ (l : List ℕ). take n ids ++ fresh (last (take n ids)) l) (numbers-are s c r area known ∙ numbers-of-roads t r area);
+          roads = ap (λ (m : ℕ). take m ids₁) end ∙ put .path ∙ ap (λ (l : List ℕ). take n ids ++ unwritten (last (take n ids)) l) (numbers-are s c r area known ∙ numbers-of-roads t r area);
           coverages = coverages;
           segment = refl;
           few = (let g = known .few in omega (arith, size-few r, put .near .0));
@@ -156,10 +156,10 @@ module _ (s : List ℕ) (c : Counts) (summed : Bool) (dnp : Float) (n : ℕ) (id
         },
       )
 
-  pub leaves-none : x ≡ S.NoPath → Left-by E.NoPath
-  unfolding Leaves sought-by
-  leaves-none is = rw is
+  pub leg-written-none : x ≡ S.NoPath → Left-by E.NoPath
+  unfolding LegEndWritten sought-by
+  leg-written-none is = rw is
 
-  pub leaves-full : x ≡ S.HeapFull → Left-by E.HeapFull
-  unfolding Leaves sought-by
-  leaves-full is = rw is
+  pub leg-written-full : x ≡ S.HeapFull → Left-by E.HeapFull
+  unfolding LegEndWritten sought-by
+  leg-written-full is = rw is

@@ -10,16 +10,16 @@ use lib.ListN.{take, getD, List·getD-append}
 use lib.Seq.{take-all, getD-at}
 use Rattle.model.specs.declared.Counts.{Counts}
 use Rattle.model.specs.declared.Road.{Road}
-use Rattle.model.specs.Lists.{In, tab}
+use Rattle.model.specs.Lists.{In, tabulate}
 use Rattle.model.specs.Judge.{WellFormed}
 use Rattle.model.specs.Sheet.{Sheet, sheet-of, road-at}
 use Rattle.model.specs.View.{view}
-use Rattle.model.specs.Legs.{Seek, best, terminal, whole}
+use Rattle.model.specs.Legs.{MiddleSearch, best, terminal, whole}
 use Rattle.model.proofs.Members.{here, tab-in}
 use Rattle.model.proofs.Parsed.{road-count}
 use Rattle.bounds.proofs.FormedProof.{well-formed-formed}
-use Rattle.bounds.proofs.Courses.{InSheet, sheet-roads}
-use Rattle.bounds.proofs.CourseRoads.{RouteRoads, leg-roads}
+use Rattle.bounds.proofs.PathLaws.{InSheet, sheet-roads}
+use Rattle.bounds.proofs.PathRoads.{RouteRoads, leg-roads}
 use Rattle.bounds.proofs.EndBound.{own-road}
 use Rattle.bounds.proofs.Legs.{Finds}
 use Rattle.bounds.proofs.Choices.{below-or-not}
@@ -27,25 +27,25 @@ use Rattle.candidates.specs.Found.{candidates-at}
 use Rattle.candidates.specs.Points.{candidates-of}
 use Rattle.candidates.proofs.Rules.{candidates-are}
 use Rattle.rules.specs.declared.Middle.{Middle}
-use Rattle.rules.specs.declared.Part.{Part}
-use Rattle.rules.specs.Code.{part-of, with-middle, middle-in}
+use Rattle.rules.specs.declared.Terminal.{Terminal}
+use Rattle.rules.specs.Code.{terminal-of, with-middle, middle-in}
 use Rattle.search.specs.Areas.{back-way, LeadsBack}
-use Rattle.search.specs.Answers.{Numbers, roads-in}
+use Rattle.search.specs.Answers.{RoadNumbers, roads-in}
 use Rattle.search.proofs.Walks.{back-size}
-use Rattle.legs.specs.declared.Sought as legs
-use Rattle.legs.specs.declared.Sought.the-variants as S
-use Rattle.legs.specs.Found.{seek-at, sought-of, winner-of, Led}
+use Rattle.legs.specs.declared.LegEnd as legs
+use Rattle.legs.specs.declared.LegEnd.the-variants as S
+use Rattle.legs.specs.Found.{middle-search-at, leg-end-of, winner-of, Led}
 use Rattle.courses.specs.Left.{path-of, middle-numbers}
-use Rattle.lines.specs.Legs.{leg-sought, sought-by, KnownAs}
+use Rattle.lines.specs.Legs.{leg-end-from, sought-by, KnownAs}
 use Rattle.lines.proofs.Sequence.{leg-from, legs-are}
 
 -- a terminal road that is kept stands in the coverages
-kept-in : (p : Part) → p .kept ≡ true → In (record { road = p .road; metres = p .metres }) (part-of p)
+kept-in : (p : Terminal) → p .kept ≡ true → In (record { road = p .road; coverage-m = p .«coverage_m» }) (terminal-of p)
 unfolding terminal
 kept-in p k = rw k here
 
 -- the roads back are numbers of the e roads
-back-numbers : (roads : ℕ → Road) (e : ℕ) (came : List ℕ) (k v : ℕ) → LeadsBack roads e came k v → Numbers e k (back-way roads came k v)
+back-numbers : (roads : ℕ → Road) (e : ℕ) (came : List ℕ) (k v : ℕ) → LeadsBack roads e came k v → RoadNumbers e k (back-way roads came k v)
 unfolding back-way LeadsBack
 back-numbers roads e came zero v h j l = absurd (omega arith)
 back-numbers roads e came (suc k) v h j l =
@@ -62,14 +62,14 @@ module _ (s : List ℕ) (c : Counts) (w : WellFormed s c) (slots i : ℕ) (h : i
   t = sheet-of s c
 
   leg-in : In (leg-from s c i) (view t .legs)
-  leg-in = rw (legs-are s c) (subst (λ (j : ℕ). In (leg-from s c j) (tab (c .p - 1) 0 (leg-from s c))) (zero-add i) (tab-in (c .p - 1) 0 (leg-from s c) i (omega arith)))
+  leg-in = rw (legs-are s c) (subst (λ (j : ℕ). In (leg-from s c j) (tabulate (c .p - 1) 0 (leg-from s c))) (zero-add i) (tab-in (c .p - 1) 0 (leg-from s c) i (omega arith)))
 
   found-in : (k : ℕ) → k < c .p → In (candidates-at t k) (candidates-of t)
-  found-in k g = rw (candidates-are s c) (subst (λ (j : ℕ). In (candidates-at t j) (tab (c .p) 0 (candidates-at t))) (zero-add k) (tab-in (c .p) 0 (candidates-at t) k g))
+  found-in k g = rw (candidates-are s c) (subst (λ (j : ℕ). In (candidates-at t j) (tabulate (c .p) 0 (candidates-at t))) (zero-add k) (tab-in (c .p) 0 (candidates-at t) k g))
 
-  sought-roads : Finds (RouteRoads (InSheet t)) (leg-sought t slots i)
-  unfolding leg-sought seek-at candidates-of
-  sought-roads =
+  leg-end-roads : Finds (RouteRoads (InSheet t)) (leg-end-from t slots i)
+  unfolding leg-end-from middle-search-at candidates-of
+  leg-end-roads =
       let wf = well-formed-formed s c w in
       leg-roads t wf (InSheet t) (sheet-roads t wf) slots (leg-from s c i) (candidates-at t i) (candidates-at t (i + 1)) leg-in (found-in i (omega arith)) (found-in (i + 1) h)
 
@@ -79,47 +79,47 @@ module _ (s : List ℕ) (c : Counts) (w : WellFormed s c) (slots i : ℕ) (h : i
       (rw (road-count s c) at (o .0), o .1)
 
   -- the roads that the marks lead back over are those of the search
-  module _ (seek : Seek) (came : List ℕ) where
-    middle-same : (m : Middle) → Led (sheet-of s c) c seek came m → map (road-at (sheet-of s c)) (take (m .count) (middle-numbers (sheet-of s c) came m)) ≡ middle-in seek m
+  module _ (search : MiddleSearch) (came : List ℕ) where
+    middle-same : (m : Middle) → Led (sheet-of s c) c search came m → map (road-at (sheet-of s c)) (take (m .count) (middle-numbers (sheet-of s c) came m)) ≡ middle-in search m
     unfolding middle-in back-way
     middle-same m led = go (m .count) refl led
       where
-        go : (k : ℕ) → m .count ≡ k → Led (sheet-of s c) c seek came m → map (road-at (sheet-of s c)) (take (m .count) (middle-numbers (sheet-of s c) came m)) ≡ take (m .count) (roads-in (seek (m .start) (m .goal) (m .bound)))
+        go : (k : ℕ) → m .count ≡ k → Led (sheet-of s c) c search came m → map (road-at (sheet-of s c)) (take (m .count) (middle-numbers (sheet-of s c) came m)) ≡ take (m .count) (roads-in (search (m .start) (m .goal) (m .bound)))
         go zero e h = rw e
         go (suc k) e h =
             ap (map (road-at t)) (take-all (m .count) (middle-numbers t came m) (omega (arith, back-size (road-at t) came (m .count) (m .goal))))
             ∙ h (omega arith) .roads
 
     -- what the leg found is what it found by them
-    pub sought-same : (x : legs.Sought) → Led (sheet-of s c) c seek came (winner-of x) → sought-by (sheet-of s c) came x ≡ sought-of seek x
-    unfolding sought-by sought-of winner-of
+    pub sought-same : (x : legs.LegEnd) → Led (sheet-of s c) c search came (winner-of x) → sought-by (sheet-of s c) came x ≡ leg-end-of search x
+    unfolding sought-by leg-end-of winner-of
     sought-same (S.Best r) led = ap (λ (l : List Road). best (with-middle r l)) (middle-same (r .middle) led)
     sought-same S.NoPath led = refl
     sought-same S.HeapFull led = refl
 
-  pub leg-known : (x : legs.Sought) (seek : Seek) (came : List ℕ) → 0 < c .n → sought-by (sheet-of s c) came x ≡ leg-sought (sheet-of s c) slots i → Led (sheet-of s c) c seek came (winner-of x) → KnownAs (sheet-of s c) c x came
+  pub leg-known : (x : legs.LegEnd) (search : MiddleSearch) (came : List ℕ) → 0 < c .n → sought-by (sheet-of s c) came x ≡ leg-end-from (sheet-of s c) slots i → Led (sheet-of s c) c search came (winner-of x) → KnownAs (sheet-of s c) c x came
   unfolding sought-by winner-of KnownAs
-  leg-known (S.Best r) seek came some is led =
+  leg-known (S.Best r) search came some is led =
       let m = r .middle in
       let area = middle-numbers t came m in
       let size = back-size (road-at t) came (m .count) (m .goal) in
-      let roads : RouteRoads (InSheet t) (path-of t r area) = subst (Finds (RouteRoads (InSheet t))) (sym is) sought-roads in (
+      let roads : RouteRoads (InSheet t) (path-of t r area) = subst (Finds (RouteRoads (InSheet t))) (sym is) leg-end-roads in (
         record {
           few = few-roads (m .count) refl led;
           room = omega (arith, size);
           numbers = numbers-back (m .count) refl led;
-          head = λ k. owned (r .head .road) (roads _ (Memᴰ·append-left (part-of (r .tail)) (Memᴰ·append-left (map whole (map (road-at t) (take (m .count) area))) (kept-in (r .head) k))));
-          tail = λ k. owned (r .tail .road) (roads _ (Memᴰ·append-right (part-of (r .head) ++ map whole (map (road-at t) (take (m .count) area))) (kept-in (r .tail) k)));
+          head = λ k. owned (r .head .road) (roads _ (Memᴰ·append-left (terminal-of (r .tail)) (Memᴰ·append-left (map whole (map (road-at t) (take (m .count) area))) (kept-in (r .head) k))));
+          tail = λ k. owned (r .tail .road) (roads _ (Memᴰ·append-right (terminal-of (r .head) ++ map whole (map (road-at t) (take (m .count) area))) (kept-in (r .tail) k)));
         },
         λ one. (led one .inside, led one .size, led one .leads),
       )
     where
-      few-roads : (k : ℕ) → r .middle .count ≡ k → Led (sheet-of s c) c seek came (r .middle) → r .middle .count < c .n
+      few-roads : (k : ℕ) → r .middle .count ≡ k → Led (sheet-of s c) c search came (r .middle) → r .middle .count < c .n
       few-roads zero e h = omega arith
       few-roads (suc k) e h = h (omega arith) .few
 
-      numbers-back : (k : ℕ) → r .middle .count ≡ k → Led (sheet-of s c) c seek came (r .middle) → Numbers (c .e) (r .middle .count) (middle-numbers (sheet-of s c) came (r .middle))
+      numbers-back : (k : ℕ) → r .middle .count ≡ k → Led (sheet-of s c) c search came (r .middle) → RoadNumbers (c .e) (r .middle .count) (middle-numbers (sheet-of s c) came (r .middle))
       numbers-back zero e h = λ j l. absurd (omega arith)
       numbers-back (suc k) e h = back-numbers (road-at t) (c .e) came (r .middle .count) (r .middle .goal) (h (omega arith) .leads)
-  leg-known S.NoPath seek came some is led = tt
-  leg-known S.HeapFull seek came some is led = tt
+  leg-known S.NoPath search came some is led = tt
+  leg-known S.HeapFull search came some is led = tt

@@ -1,10 +1,10 @@
 // One leg but for its search: what it accepts, and what it leaves.
-use crate::LegEnd;
-use crate::Segment;
-use crate::Walked;
+use crate::LegWritten;
+use crate::SegmentInfo;
+use crate::WrittenLeg;
 use courses::coverage;
 use courses::path;
-use legs::Sought;
+use legs::LegEnd;
 use model::Counts;
 use model::Limits;
 use model::Settings;
@@ -15,9 +15,9 @@ ghost use Prim.Native.Nat.{_+_, _≤_, _<_};
 ghost use lib.ListN.{length};
 ghost use Rattle.model.specs.Judge.{WellFormed};
 ghost use Rattle.model.specs.Sheet.{sheet-of};
-ghost use Rattle.search.specs.Answers.{Numbers};
+ghost use Rattle.search.specs.Answers.{RoadNumbers};
 ghost use Rattle.courses.specs.Left.{coverages-at};
-ghost use Rattle.lines.specs.Legs.{leg-limits, sought-by, KnownAs, Leaves};
+ghost use Rattle.lines.specs.Legs.{leg-limits, sought-by, KnownAs, LegEndWritten};
 
 // What the leg from point i accepts.
 pub fn leg_limits(s: &[u8], c: Counts, set: Settings, i: usize) -> Limits
@@ -34,21 +34,21 @@ pub fn leave(
     c: Counts,
     summed: bool,
     dnp: f64,
-    found: Sought,
+    found: LegEnd,
     came_from: &[usize],
     n0: usize,
     covered: &mut [usize],
     coverage: &mut [f64],
     at: usize,
     ids: &mut [u64],
-) -> LegEnd
-    requires { ⌜ WellFormed (now s) c × KnownAs (sheet-of (now s) c) c found (now «came_from») × Numbers (c .e) n0 (now covered) ⌝ }
+) -> LegWritten
+    requires { ⌜ WellFormed (now s) c × KnownAs (sheet-of (now s) c) c found (now «came_from») × RoadNumbers (c .e) n0 (now covered) ⌝ }
     requires { ⌜ (n0 + c .n + 1 ≤ length (now covered)) × (n0 + c .n + 1 ≤ length (now coverage)) × (at + c .n + 1 ≤ length (now ids)) ⌝ }
-    ensures { λ r. ⌜ Leaves (sheet-of (now (s .entry)) c) c summed dnp at (now (ids .entry)) (coverages-at (sheet-of (now (s .entry)) c) n0 (now (covered .entry)) (now (coverage .entry))) n0
+    ensures { λ r. ⌜ LegEndWritten (sheet-of (now (s .entry)) c) c summed dnp at (now (ids .entry)) (coverages-at (sheet-of (now (s .entry)) c) n0 (now (covered .entry)) (now (coverage .entry))) n0
         (sought-by (sheet-of (now (s .entry)) c) (now («came_from» .entry)) found) (now (ids .exit)) (now (covered .exit)) (now (coverage .exit)) r ⌝ }
 {
     match found {
-        Sought::Best(route) => {
+        LegEnd::Best(route) => {
             let from = path::append_leg(s, c, route, came_from, at, ids);
             let middle = from + path::terminals(route.head);
             let count = coverage::cover_leg(
@@ -62,18 +62,18 @@ pub fn leave(
                 n0,
             );
             let end = from + path::count_roads(route);
-            LegEnd::Walked(Walked {
+            LegWritten::Written(WrittenLeg {
                 written: end - at,
                 covered: count,
-                segment: Segment {
-                    length_m: route.total,
+                segment: SegmentInfo {
+                    length_m: route.total_length,
                     expected_m: dnp,
-                    start_offset: route.start_offset,
-                    end_offset: route.end_offset,
+                    start_offset_m: route.start_offset_m,
+                    end_offset_m: route.end_offset_m,
                 },
             })
         }
-        Sought::NoPath => LegEnd::NoPath,
-        Sought::HeapFull => LegEnd::HeapFull,
+        LegEnd::NoPath => LegWritten::NoPath,
+        LegEnd::HeapFull => LegWritten::HeapFull,
     }
 }

@@ -11,7 +11,7 @@ ghost use Prim.Native.Nat.{_+_, _<_};
 ghost use Rattle.model.specs.Judge.{WellFormed};
 ghost use Rattle.model.specs.Sheet.{sheet-of};
 ghost use Rattle.search.specs.Areas.{SearchRoom, ListRoom};
-ghost use Rattle.lines.specs.Legs.{legs-of, Ends};
+ghost use Rattle.lines.specs.Legs.{legs-of, LegsOutcome};
 
 // decode_line, where lengths and coverages are summed, and decode_point_along_line, whose one leg is not. Each leg writes behind the roads already there; the candidates of its end are those of the next leg's start.
 pub fn walk_legs(
@@ -31,14 +31,14 @@ pub fn walk_legs(
     requires { ⌜ WellFormed (now s) c × (set ≡ sheet-of (now s) c .settings) × (0 < c .n) × (0 < c .p) × (summed ≡ false → c .p ≡ 2) ⌝ }
     requires { ⌜ ListRoom c (now covered) (now coverage) (now ids) ⌝ }
     requires { ⌜ SearchRoom (c .n) slots (now labels) (now «came_from») (now entries) (now links) ⌝ }
-    ensures { λ r. ⌜ Ends (sheet-of (now (s .entry)) c) c (legs-of summed (sheet-of (now (s .entry)) c) slots) (now (ids .exit)) (now (covered .exit)) (now (coverage .exit)) (r .end) (r .course) ⌝ }
+    ensures { λ r. ⌜ LegsOutcome (sheet-of (now (s .entry)) c) c (legs-of summed (sheet-of (now (s .entry)) c) slots) (now (ids .exit)) (now (covered .exit)) (now (coverage .exit)) (r .end) (r .path) ⌝ }
 {
     let points = c.p;
     let mut run = steps::begin();
     let mut starts = find::find_candidates(s, c, set, 0);
     while run.next + 1 < points {
-        let at = run.course.written;
-        let n0 = run.course.covered;
+        let at = run.path.written;
+        let n0 = run.path.covered;
         let to = run.next + 1;
         let ends = find::find_candidates(s, c, set, to);
         let b = leg::leg_limits(s, c, set, run.next);

@@ -1,34 +1,34 @@
 // The legs so far, by value.
-use crate::Course;
-use crate::End;
-use crate::LegEnd;
+use crate::FullPath;
+use crate::LegWritten;
 use crate::Legs;
-use crate::Segment;
-use crate::Walked;
+use crate::LegsEnd;
+use crate::SegmentInfo;
+use crate::WrittenLeg;
 ghost use mathlib.Core.Path.{_≡_};
 ghost use mathlib.Core.Bool.{cond};
 ghost use Prim.Native.Nat.{_≤_};
 ghost use lib.Dec.{eqb};
 ghost use Rattle.model.specs.Numbers.{_⊕_};
-ghost use Rattle.lines.specs.Legs.{nothing-walked, extended-by, advanced, Short};
+ghost use Rattle.lines.specs.Legs.{no-leg-yet, extended-by, advanced, Short};
 
 // No leg walked yet.
 pub fn begin() -> Legs
-    ensures { λ r. ⌜ r ≡ nothing-walked ⌝ }
+    ensures { λ r. ⌜ r ≡ no-leg-yet ⌝ }
 {
-    let none = Segment {
+    let none = SegmentInfo {
         length_m: 0.0,
         expected_m: 0.0,
-        start_offset: 0.0,
-        end_offset: 0.0,
+        start_offset_m: 0.0,
+        end_offset_m: 0.0,
     };
     Legs {
         next: 0,
-        end: End::Done,
-        course: Course {
+        end: LegsEnd::Done,
+        path: FullPath {
             written: 0,
             covered: 0,
-            total: 0.0,
+            total_length: 0.0,
             first: none,
             last: none,
         },
@@ -36,7 +36,7 @@ pub fn begin() -> Legs
 }
 
 // The segment of leg 0 is the first one; it stays afterwards.
-fn first_segment(i: usize, segment: Segment, first: Segment) -> Segment
+fn first_segment(i: usize, segment: SegmentInfo, first: SegmentInfo) -> SegmentInfo
     ensures { λ r. ⌜ r ≡ cond (eqb i 0) segment first ⌝ }
 {
     if i == 0 { segment } else { first }
@@ -49,48 +49,48 @@ fn total_with(summed: bool, total: f64, length: f64) -> f64
     if summed { total + length } else { length }
 }
 
-// The course after leg i.
-fn extended(summed: bool, i: usize, x: Course, w: Walked) -> Course
+// The path after leg i.
+fn extended(summed: bool, i: usize, x: FullPath, w: WrittenLeg) -> FullPath
     requires { ⌜ (x .written ≤ 1000000) × (w .written ≤ 1000000) ⌝ }
     ensures { λ r. ⌜ r ≡ extended-by summed i x w ⌝ }
 {
     let segment = w.segment;
     let first = first_segment(i, segment, x.first);
-    let total = total_with(summed, x.total, segment.length_m);
-    Course {
+    let total = total_with(summed, x.total_length, segment.length_m);
+    FullPath {
         written: x.written + w.written,
         covered: w.covered,
-        total,
+        total_length: total,
         first,
         last: segment,
     }
 }
 
 // The legs after the next one has ended so; `points` ends them.
-pub fn advance(summed: bool, x: Legs, points: usize, e: LegEnd) -> Legs
-    requires { ⌜ (x .next ≤ 1000000) × (x .course .written ≤ 1000000) × Short e ⌝ }
+pub fn advance(summed: bool, x: Legs, points: usize, e: LegWritten) -> Legs
+    requires { ⌜ (x .next ≤ 1000000) × (x .path .written ≤ 1000000) × Short e ⌝ }
     ensures { λ r. ⌜ r ≡ advanced summed x points e ⌝ }
 {
     let i = x.next;
-    let course = x.course;
+    let path = x.path;
     match e {
-        LegEnd::Walked(w) => {
-            let longer = extended(summed, i, course, w);
+        LegWritten::Written(w) => {
+            let longer = extended(summed, i, path, w);
             Legs {
                 next: i + 1,
-                end: End::Done,
-                course: longer,
+                end: LegsEnd::Done,
+                path: longer,
             }
         }
-        LegEnd::NoPath => Legs {
+        LegWritten::NoPath => Legs {
             next: points,
-            end: End::NoPath(i),
-            course,
+            end: LegsEnd::NoPath(i),
+            path,
         },
-        LegEnd::HeapFull => Legs {
+        LegWritten::HeapFull => Legs {
             next: points,
-            end: End::HeapFull(i),
-            course,
+            end: LegsEnd::HeapFull(i),
+            path,
         },
     }
 }

@@ -7,8 +7,8 @@ use lib.Ieee.Bits.{is-true}
 use mathlib.Core.List.{[]}
 use Rattle.model.specs.Numbers.{f0}
 use Rattle.model.specs.View.{View, Leg}
-use Rattle.model.specs.Search.{Searcher, found}
-use Rattle.model.specs.Decode.{seek-of}
+use Rattle.model.specs.Search.{Search, found}
+use Rattle.model.specs.Decode.{middle-search}
 use Rattle.model.specs.Edges.{RefusalExamples, OtherEdges, Ties}
 use Rattle.model.proofs.Computes.{computes}
 
@@ -29,8 +29,8 @@ refusal-examples = record {
   full-heap = refl;
 }
 
-pub start-is-goal : (v : View) (search : Searcher) (leg : Leg) (n : ℕ) (bound : Float) → seek-of v search leg n n bound ≡ found f0 []
-unfolding seek-of
+pub start-is-goal : (v : View) (search : Search) (leg : Leg) (n : ℕ) (bound : Float) → middle-search v search leg n n bound ≡ found f0 []
+unfolding middle-search
 start-is-goal v search leg n bound = rw (is-true (eqb n n) (eqb-refl n))
 
 pub other-edges : OtherEdges

@@ -13,7 +13,7 @@ use Rattle.model.specs.declared.Verdict.{Verdict}
 use Rattle.model.specs.declared.Verdict.the-variants.{Good, Bad}
 use Rattle.model.specs.Bytes.{u8-at, u16-at, u32-at, u64-at}
 use Rattle.model.specs.Layout.{settings-at, points-at, roads-at, numbers-at, rows-at, distances-at, goals-at, goal-width, most-measured}
-use Rattle.model.specs.Table.{Field, need, _then_, check, check-then, records, first-bad, first-bad-after, alike, f64, measured, most-f64, most-bearing}
+use Rattle.model.specs.Table.{Field, need, _then_, check, check-then, records, first-bad, first-bad-after, fields-alike, f64, measured, most-f64, most-bearing}
 use Rattle.model.specs.Judge.{settings-table, point-table, road-table, number-table, row-table, distance-table, goal-table, fields-good, source-of, entry-of, row-count, row-road, goal-node, Sound}
 
 -- ---- verdicts
@@ -81,21 +81,21 @@ pub records-field : (s : List ℕ) (w : ℕ) (fs : List Field) (k at : ℕ) → 
 records-field s w fs k at e r h i = field-good s (at + r * w) fs (record-good s w fs k at e r h) i
 
 -- field i of a run of fields alike, at a table's end and within it
-pub alike-last : (f : ℕ → Field) (w o k : ℕ) (i : ℕ) → i < k → getD (alike f w o k) i any-field ≡ f (o + i * w)
-unfolding alike
+pub alike-last : (f : ℕ → Field) (w o k : ℕ) (i : ℕ) → i < k → getD (fields-alike f w o k) i any-field ≡ f (o + i * w)
+unfolding fields-alike
 alike-last f w o zero i h = absurd (not-suc-le-zero h)
 alike-last f w o (suc k) zero h = ap f {x = o} {y = o + 0 * w} (rw (zero-mul, add-zero))
 alike-last f w o (suc k) (suc i) h =
     let there : o + w + i * w ≡ o + suc i * w = rw suc-mul (omega arith) in
     alike-last f w (o + w) k i (le-of-suc-le-suc h) ∙ ap f there
 
-length-alike : (f : ℕ → Field) (w o k : ℕ) → length (alike f w o k) ≡ k
-unfolding alike
+length-alike : (f : ℕ → Field) (w o k : ℕ) → length (fields-alike f w o k) ≡ k
+unfolding fields-alike
 length-alike f w o zero = refl
 length-alike f w o (suc k) = ap suc (length-alike f w (o + w) k)
 
-pub alike-at : (f : ℕ → Field) (w o k : ℕ) (fs : List Field) (i : ℕ) → i < k → getD (alike f w o k ++ fs) i any-field ≡ f (o + i * w)
-alike-at f w o k fs i h = List·getD-append (alike f w o k) fs any-field i (omega (arith, length-alike f w o k)) ∙ alike-last f w o k i h
+pub alike-at : (f : ℕ → Field) (w o k : ℕ) (fs : List Field) (i : ℕ) → i < k → getD (fields-alike f w o k ++ fs) i any-field ≡ f (o + i * w)
+alike-at f w o k fs i h = List·getD-append (fields-alike f w o k) fs any-field i (omega (arith, length-alike f w o k)) ∙ alike-last f w o k i h
 
 -- either of two bounds is at most the greater
 either-most : (b : Bool) (n : ℕ) → cond b 0 n ≤ n
@@ -134,11 +134,11 @@ module _ (s : List ℕ) (c : Counts) (ok : Sound s c) where
       rw there at (leb-true (u64-at s place) most-f64 (rw (alike-at (f64 measured) 8 0 13 _ k h) at (settings-field k)))
 
   pub snap-most : u8-at s (settings-at + 105) ≤ 1
-  unfolding settings-table alike
+  unfolding settings-table fields-alike
   snap-most = leb-true _ _ (settings-field 13)
 
   pub candidates-most : u16-at s (settings-at + 106) ≤ most-measured
-  unfolding settings-table alike
+  unfolding settings-table fields-alike
   candidates-most = leb-true _ _ (settings-field 14)
 
   -- a point
@@ -157,7 +157,7 @@ module _ (s : List ℕ) (c : Counts) (ok : Sound s c) where
   point-class-most i h = (leb-true _ _ (point-field i h 2), leb-true _ _ (point-field i h 3))
 
   pub count-most : (i : ℕ) → i < c .p → row-count s i ≤ most-measured
-  unfolding point-table alike row-count
+  unfolding point-table fields-alike row-count
   count-most i h = leb-true _ _ (point-field i h 8)
 
   -- a road
@@ -193,19 +193,19 @@ module _ (s : List ℕ) (c : Counts) (ok : Sound s c) where
   row-road-below k h = ltb-true _ _ (row-field k h 0)
 
   pub row-distance-most : (k : ℕ) → k < c .m → u64-at s (rows-at c + k * 40 + 8) ≤ most-f64
-  unfolding row-table alike
+  unfolding row-table fields-alike
   row-distance-most k h = leb-true _ _ (row-field k h 5)
 
   pub row-bearing-most : (k : ℕ) → k < c .m → u64-at s (rows-at c + k * 40 + 16) ≤ most-bearing
-  unfolding row-table alike
+  unfolding row-table fields-alike
   row-bearing-most k h = leb-true _ _ (row-field k h 6)
 
   pub row-along-most : (k : ℕ) → k < c .m → u64-at s (rows-at c + k * 40 + 24) ≤ most-f64
-  unfolding row-table alike
+  unfolding row-table fields-alike
   row-along-most k h = leb-true _ _ (row-field k h 7)
 
   pub row-line-most : (k : ℕ) → k < c .m → u64-at s (rows-at c + k * 40 + 32) ≤ most-f64
-  unfolding row-table alike
+  unfolding row-table fields-alike
   row-line-most k h = leb-true _ _ (row-field k h 8)
 
   -- a distance from the first or the last point
@@ -221,7 +221,7 @@ module _ (s : List ℕ) (c : Counts) (ok : Sound s c) where
   goal-node-below k h = ltb-true _ _ (goal-field k h 0)
 
   pub goal-distance-most : (k : ℕ) → k < c .g → (v : ℕ) → v < c .n → u64-at s (goals-at c + k * goal-width (c .n) + 8 + v * 8) ≤ most-f64
-  unfolding goal-table alike
+  unfolding goal-table fields-alike
   goal-distance-most k h v hv =
       let place : ℕ = goals-at c + k * goal-width (c .n) + (8 + v * 8) in
       let there : place ≡ goals-at c + k * goal-width (c .n) + 8 + v * 8 = omega arith in

@@ -11,7 +11,7 @@ use lib.Dec.{T}
 use lib.ListN.{length, getD, set, take, drop, replicate, length-append, length-replicate}
 use lib.Seq.{take-suc, drop-append-le, length-take-le}
 use lib.Ieee.Fits.{and-l, and-r, and-i}
-use Rattle.model.specs.Lists.{In, cons-if, cons-some, keep, any, all, first, head, last, front, insert, sort, tab, pad, collect, fold}
+use Rattle.model.specs.Lists.{In, cons-if, cons-some, filter, any, all, find, head, last, init, insert, sort, tabulate, pad, filter-map, fold}
 
 pub or-l : (a b : Bool) → T a → T (a || b)
 or-l true b t = tt
@@ -44,8 +44,8 @@ module _ {A : Type 0} where
   all-of-members p [] h = tt
   all-of-members p (x ∷ xs) h = and-i (p x) (all p xs) (h x here) (all-of-members p xs (λ y m. h y (List·Memᴰ·tail m)))
 
-  pub in-front : {x : A} (xs : List A) → In x (front xs) → In x xs
-  unfolding front
+  pub in-front : {x : A} (xs : List A) → In x (init xs) → In x xs
+  unfolding init
   in-front [] m = m
   in-front (y ∷ []) m = List·Memᴰ·tail m
   in-front {x} (y ∷ z ∷ zs) m = elim (List·Memᴰ·cases-cons m) [ inl e ↦ List·Memᴰ·head e | inr k ↦ List·Memᴰ·tail (in-front (z ∷ zs) k) ]
@@ -76,46 +76,46 @@ module _ {A : Type 0} where
   in-head [] x e = absurd (Option·none-ne-some x e)
   in-head (y ∷ ys) x e = List·Memᴰ·head (sym (Option·some-injective y x e))
 
-  -- ---- keep
+  -- ---- filter
 
-  pub keep-yes : (p : A → Bool) (x : A) (xs : List A) → p x ≡ true → keep p (x ∷ xs) ≡ x ∷ keep p xs
-  unfolding keep cons-if
+  pub keep-yes : (p : A → Bool) (x : A) (xs : List A) → p x ≡ true → filter p (x ∷ xs) ≡ x ∷ filter p xs
+  unfolding filter cons-if
   keep-yes p x xs e = rw (e, cons-if)
 
-  pub keep-no : (p : A → Bool) (x : A) (xs : List A) → p x ≡ false → keep p (x ∷ xs) ≡ keep p xs
-  unfolding keep cons-if
+  pub keep-no : (p : A → Bool) (x : A) (xs : List A) → p x ≡ false → filter p (x ∷ xs) ≡ filter p xs
+  unfolding filter cons-if
   keep-no p x xs e = rw (e, cons-if)
 
   -- q drops nothing that p keeps
-  pub keep-keep : (p q : A → Bool) → ((x : A) → T (p x) → T (q x)) → (xs : List A) → keep p xs ≡ keep p (keep q xs)
-  unfolding keep
+  pub keep-keep : (p q : A → Bool) → ((x : A) → T (p x) → T (q x)) → (xs : List A) → filter p xs ≡ filter p (filter q xs)
+  unfolding filter
   keep-keep p q h [] = refl
   keep-keep p q h (x ∷ xs) = go (p x) refl (q x) refl (keep-keep p q h xs)
     where
-      go : (b : Bool) → p x ≡ b → (c : Bool) → q x ≡ c → keep p xs ≡ keep p (keep q xs) → keep p (x ∷ xs) ≡ keep p (keep q (x ∷ xs))
-      go true e true f ih = keep-yes p x xs e ∙ ap (λ (ys : List A). x ∷ ys) ih ∙ sym (ap (keep p) (keep-yes q x xs f) ∙ keep-yes p x (keep q xs) e)
+      go : (b : Bool) → p x ≡ b → (c : Bool) → q x ≡ c → filter p xs ≡ filter p (filter q xs) → filter p (x ∷ xs) ≡ filter p (filter q (x ∷ xs))
+      go true e true f ih = keep-yes p x xs e ∙ ap (λ (ys : List A). x ∷ ys) ih ∙ sym (ap (filter p) (keep-yes q x xs f) ∙ keep-yes p x (filter q xs) e)
       go true e false f ih = absurd (subst T f (h x (subst T (sym e) tt)))
-      go false e true f ih = keep-no p x xs e ∙ ih ∙ sym (ap (keep p) (keep-yes q x xs f) ∙ keep-no p x (keep q xs) e)
-      go false e false f ih = keep-no p x xs e ∙ ih ∙ sym (ap (keep p) (keep-no q x xs f))
+      go false e true f ih = keep-no p x xs e ∙ ih ∙ sym (ap (filter p) (keep-yes q x xs f) ∙ keep-no p x (filter q xs) e)
+      go false e false f ih = keep-no p x xs e ∙ ih ∙ sym (ap (filter p) (keep-no q x xs f))
 
-  pub in-keep : (p : A → Bool) {x : A} (xs : List A) → In x (keep p xs) → In x xs × T (p x)
-  unfolding keep
+  pub in-keep : (p : A → Bool) {x : A} (xs : List A) → In x (filter p xs) → In x xs × T (p x)
+  unfolding filter
   in-keep p [] m = absurd (List·Memᴰ·not-nil m)
   in-keep p {x} (y ∷ ys) m = go (p y) refl (in-keep p {x = x} ys)
     where
-      go : (b : Bool) → p y ≡ b → (In x (keep p ys) → In x ys × T (p x)) → In x (y ∷ ys) × T (p x)
+      go : (b : Bool) → p y ≡ b → (In x (filter p ys) → In x ys × T (p x)) → In x (y ∷ ys) × T (p x)
       go true e ih = elim (List·Memᴰ·cases-cons (subst (In x) (keep-yes p y ys e) m)) [
         | inl f ↦ (List·Memᴰ·head f, subst (λ (z : A). T (p z)) (sym f) (subst T (sym e) tt))
         | inr k ↦ (List·Memᴰ·tail (ih k .0), ih k .1)
       ]
       go false e ih = let k = ih (subst (In x) (keep-no p y ys e) m) in (List·Memᴰ·tail (k .0), k .1)
 
-  pub keep-in : (p : A → Bool) {x : A} (xs : List A) → In x xs → p x ≡ true → In x (keep p xs)
-  unfolding keep
+  pub keep-in : (p : A → Bool) {x : A} (xs : List A) → In x xs → p x ≡ true → In x (filter p xs)
+  unfolding filter
   keep-in p [] m e = absurd (List·Memᴰ·not-nil m)
   keep-in p {x} (y ∷ ys) m e = go (p y) refl (List·Memᴰ·cases-cons m) (λ k. keep-in p ys k e)
     where
-      go : (b : Bool) → p y ≡ b → (x ≡ y) ⊎ In x ys → (In x ys → In x (keep p ys)) → In x (keep p (y ∷ ys))
+      go : (b : Bool) → p y ≡ b → (x ≡ y) ⊎ In x ys → (In x ys → In x (filter p ys)) → In x (filter p (y ∷ ys))
       go true f (inl q) ih = subst (In x) (sym (keep-yes p y ys f)) (List·Memᴰ·head q)
       go true f (inr k) ih = subst (In x) (sym (keep-yes p y ys f)) (List·Memᴰ·tail (ih k))
       go false f (inl q) ih = absurd (subst T f (subst (λ (z : A). T (p z)) q (subst T (sym e) tt)))
@@ -123,12 +123,12 @@ module _ {A : Type 0} where
 
   -- ---- first
 
-  pub first-in : (p : A → Bool) (xs : List A) (x : A) → first p xs ≡ some x → In x xs × T (p x)
-  unfolding first
+  pub first-in : (p : A → Bool) (xs : List A) (x : A) → find p xs ≡ some x → In x xs × T (p x)
+  unfolding find
   first-in p [] x e = absurd (Option·none-ne-some x e)
   first-in p (y ∷ ys) x e = go (p y) refl e (first-in p ys x)
     where
-      go : (b : Bool) → p y ≡ b → cond b (some y) (first p ys) ≡ some x → (first p ys ≡ some x → In x ys × T (p x)) → In x (y ∷ ys) × T (p x)
+      go : (b : Bool) → p y ≡ b → cond b (some y) (find p ys) ≡ some x → (find p ys ≡ some x → In x ys × T (p x)) → In x (y ∷ ys) × T (p x)
       go true f k ih = let q = Option·some-injective y x k in (List·Memᴰ·head (sym q), subst (λ (z : A). T (p z)) q (subst T (sym f) tt))
       go false f k ih = let m = ih k in (List·Memᴰ·tail (m .0), m .1)
 
@@ -158,36 +158,36 @@ module _ {A : Type 0} where
         | inr k ↦ inr (List·Memᴰ·tail k)
       ]
 
-  -- ---- tab
+  -- ---- tabulate
 
-  pub length-tab : (n i : ℕ) (f : ℕ → A) → length (tab n i f) ≡ n
-  unfolding tab
+  pub length-tab : (n i : ℕ) (f : ℕ → A) → length (tabulate n i f) ≡ n
+  unfolding tabulate
   length-tab zero i f = refl
   length-tab (suc n) i f = ap suc (length-tab n (i + 1) f)
 
-  pub getD-tab : (n i : ℕ) (f : ℕ → A) (k : ℕ) (d : A) → k < n → getD (tab n i f) k d ≡ f (i + k)
-  unfolding tab
+  pub getD-tab : (n i : ℕ) (f : ℕ → A) (k : ℕ) (d : A) → k < n → getD (tabulate n i f) k d ≡ f (i + k)
+  unfolding tabulate
   getD-tab zero i f k d h = absurd (not-suc-le-zero h)
   getD-tab (suc n) i f zero d h = ap f {x = i} {y = i + 0} (omega arith)
   getD-tab (suc n) i f (suc k) d h = getD-tab n (i + 1) f k d (le-of-suc-le-suc h) ∙ ap f {x = i + 1 + k} {y = i + suc k} (omega arith)
 
   -- from 0
-  pub getD-table : (n : ℕ) (f : ℕ → A) (k : ℕ) (d : A) → k < n → getD (tab n 0 f) k d ≡ f k
+  pub getD-table : (n : ℕ) (f : ℕ → A) (k : ℕ) (d : A) → k < n → getD (tabulate n 0 f) k d ≡ f k
   getD-table n f k d h = getD-tab n 0 f k d h ∙ ap f {x = 0 + k} {y = k} (omega arith)
 
-  pub in-tab : {x : A} (n i : ℕ) (f : ℕ → A) → In x (tab n i f) → (k : ℕ) × (k < n) × (f (i + k) ≡ x)
-  unfolding tab
+  pub in-tab : {x : A} (n i : ℕ) (f : ℕ → A) → In x (tabulate n i f) → (k : ℕ) × (k < n) × (f (i + k) ≡ x)
+  unfolding tabulate
   in-tab zero i f m = absurd (List·Memᴰ·not-nil m)
   in-tab {x} (suc n) i f m = elim (List·Memᴰ·cases-cons m) [
     | inl e ↦ (zero, zero-lt-suc n, ap f {x = i + 0} {y = i} (omega arith) ∙ sym e)
     | inr t ↦ let k = in-tab n (i + 1) f t in (suc (k .0), suc-le-suc (k .1), ap f {x = i + suc (k .0)} {y = i + 1 + k .0} (omega arith) ∙ k .2)
   ]
 
-  pub tab-in : (n i : ℕ) (f : ℕ → A) (k : ℕ) → k < n → In (f (i + k)) (tab n i f)
-  unfolding tab
+  pub tab-in : (n i : ℕ) (f : ℕ → A) (k : ℕ) → k < n → In (f (i + k)) (tabulate n i f)
+  unfolding tabulate
   tab-in zero i f k h = absurd (not-suc-le-zero h)
   tab-in (suc n) i f zero h = List·Memᴰ·head (ap f {x = i + 0} {y = i} (omega arith))
-  tab-in (suc n) i f (suc k) h = List·Memᴰ·tail (subst (λ (j : ℕ). In (f j) (tab n (i + 1) f)) {x = i + 1 + k} {y = i + suc k} (omega arith) (tab-in n (i + 1) f k (le-of-suc-le-suc h)))
+  tab-in (suc n) i f (suc k) h = List·Memᴰ·tail (subst (λ (j : ℕ). In (f j) (tabulate n (i + 1) f)) {x = i + 1 + k} {y = i + suc k} (omega arith) (tab-in n (i + 1) f k (le-of-suc-le-suc h)))
 
 module _ {A B : Type 0} where
   pub map-eq : (f g : A → B) (xs : List A) → ((x : A) → In x xs → f x ≡ g x) → map f xs ≡ map g xs
@@ -217,21 +217,21 @@ module _ {A B : Type 0} where
       go false ih = ap (λ (zs : List B). f y ∷ zs) ih
 
   -- a filter behind a map is one before it
-  pub keep-map : (f : A → B) (p : B → Bool) (xs : List A) → keep p (map f xs) ≡ map f (keep (λ x. p (f x)) xs)
-  unfolding keep
+  pub keep-map : (f : A → B) (p : B → Bool) (xs : List A) → filter p (map f xs) ≡ map f (filter (λ x. p (f x)) xs)
+  unfolding filter
   keep-map f p [] = refl
   keep-map f p (x ∷ xs) = go (p (f x)) refl (keep-map f p xs)
     where
-      go : (b : Bool) → p (f x) ≡ b → keep p (map f xs) ≡ map f (keep (λ y. p (f y)) xs) → keep p (f x ∷ map f xs) ≡ map f (keep (λ y. p (f y)) (x ∷ xs))
+      go : (b : Bool) → p (f x) ≡ b → filter p (map f xs) ≡ map f (filter (λ y. p (f y)) xs) → filter p (f x ∷ map f xs) ≡ map f (filter (λ y. p (f y)) (x ∷ xs))
       go true e ih = keep-yes p (f x) (map f xs) e ∙ ap (λ (ys : List B). f x ∷ ys) ih ∙ sym (ap (map f) (keep-yes (λ y. p (f y)) x xs e))
       go false e ih = keep-no p (f x) (map f xs) e ∙ ih ∙ sym (ap (map f) (keep-no (λ y. p (f y)) x xs e))
 
-  pub in-collect : {y : B} (f : A → Option B) (xs : List A) → In y (collect f xs) → (x : A) × In x xs × (f x ≡ some y)
-  unfolding collect cons-some
+  pub in-collect : {y : B} (f : A → Option B) (xs : List A) → In y (filter-map f xs) → (x : A) × In x xs × (f x ≡ some y)
+  unfolding filter-map cons-some
   in-collect f [] m = absurd (List·Memᴰ·not-nil m)
   in-collect {y} f (x ∷ xs) m = go (f x) refl (in-collect {y = y} f xs) m
     where
-      go : (o : Option B) → f x ≡ o → (In y (collect f xs) → (u : A) × In u xs × (f u ≡ some y)) → In y (cons-some o (collect f xs)) → (u : A) × In u (x ∷ xs) × (f u ≡ some y)
+      go : (o : Option B) → f x ≡ o → (In y (filter-map f xs) → (u : A) × In u xs × (f u ≡ some y)) → In y (cons-some o (filter-map f xs)) → (u : A) × In u (x ∷ xs) × (f u ≡ some y)
       go none e ih m = let k = ih m in (k .0, List·Memᴰ·tail (k .1), k .2)
       go (some z) e ih m = elim (List·Memᴰ·cases-cons m) [ inl p ↦ (x, here, e ∙ ap some (sym p)) | inr j ↦ let k = ih j in (k .0, List·Memᴰ·tail (k .1), k .2) ]
 
@@ -277,8 +277,8 @@ fold-holds Q f b (x ∷ xs) h k = fold-holds Q f (f b x) xs (k x here b h) (λ y
 -- ---- lengths
 
 module _ {A : Type 0} where
-  pub length-front : (xs : List A) → length (front xs) ≤ length xs
-  unfolding front
+  pub length-front : (xs : List A) → length (init xs) ≤ length xs
+  unfolding init
   length-front [] = zero-le
   length-front (x ∷ []) = zero-le
   length-front (x ∷ y ∷ ys) = let h = length-front (y ∷ ys) in omega arith

@@ -7,11 +7,11 @@ use lib.ListN.{length, getD}
 use Rattle.model.specs.declared.Counts.{Counts}
 use Rattle.model.specs.declared.Road.{Road}
 use Rattle.model.specs.Numbers.{f0}
-use Rattle.model.specs.Lists.{tab}
+use Rattle.model.specs.Lists.{tabulate}
 use Rattle.model.specs.Bytes.{u32-at, u64-at, f64-at}
 use Rattle.model.specs.Layout.{settings-at, points-at, roads-at, rows-at, distances-at, goal-width, settings-bytes, points-bytes, road-bytes, rows-bytes, distances-bytes}
 use Rattle.model.specs.Judge.{row-count, rows-before, row-road}
-use Rattle.model.specs.Sheet.{Stop, road-of, row-of, count-in, before-in, stop-of, part, sheet-of, no-road, road-at, list-at}
+use Rattle.model.specs.Sheet.{MeasuredPoint, road-of, row-of, count-in, before-in, measured-point, part, sheet-of, no-road, road-at, list-at}
 use Rattle.model.proofs.Members.{length-tab, getD-table}
 use Rattle.model.proofs.Sections.{u32-section, u64-section, f64-section}
 
@@ -30,9 +30,9 @@ module _ (s : List ℕ) (c : Counts) where
   unfolding sheet-of
   list-count = length-tab _ _ _
 
-  pub stop-count : length (sheet-of s c .stops) ≡ c .p
+  pub point-count : length (sheet-of s c .points) ≡ c .p
   unfolding sheet-of
-  stop-count = length-tab _ _ _
+  point-count = length-tab _ _ _
 
   -- ---- roads
 
@@ -48,9 +48,9 @@ module _ (s : List ℕ) (c : Counts) where
   unfolding road-of
   id-is r h = ap (λ (x : Road). x .id) (road-is r h) ∙ u64-section s (roads-at c + r * 32) 32 0 (roads-at c + r * 32) (omega arith) (omega arith)
 
-  pub metres-is : (r : ℕ) → r < c .e → road-at (sheet-of s c) r .metres ≡ f64-at s (roads-at c + r * 32 + 8)
+  pub metres-is : (r : ℕ) → r < c .e → road-at (sheet-of s c) r .«length_m» ≡ f64-at s (roads-at c + r * 32 + 8)
   unfolding road-of
-  metres-is r h = ap (λ (x : Road). x .metres) (road-is r h) ∙ f64-section s _ 32 8 _ (omega arith) refl
+  metres-is r h = ap (λ (x : Road). x .«length_m») (road-is r h) ∙ f64-section s _ 32 8 _ (omega arith) refl
 
   pub source-is : (r : ℕ) → r < c .e → road-at (sheet-of s c) r .source ≡ u32-at s (roads-at c + r * 32 + 16)
   unfolding road-of
@@ -77,7 +77,7 @@ module _ (s : List ℕ) (c : Counts) where
   unfolding sheet-of
   last-is v h = getD-table (c .n) (λ k. f64-at (distances-bytes s c) ((c .n + k) * 8)) v f0 h ∙ distance-is ((c .n + v) * 8) (omega arith)
 
-  -- ---- the rows of a stop are rows of the sheet
+  -- ---- the rows of a point are rows of the sheet
 
   pub count-is : (i : ℕ) → i < c .p → count-in (points-bytes s c) i ≡ row-count s i
   unfolding count-in row-count
@@ -88,12 +88,12 @@ module _ (s : List ℕ) (c : Counts) where
   before-is zero h = refl
   before-is (suc i) h = rw (before-is i (omega arith), count-is i h)
 
-  pub stop-is : (i : ℕ) → i < c .p → (d : Stop) → getD (sheet-of s c .stops) i d ≡ stop-of (points-bytes s c) (rows-bytes s c) i
+  pub measured-point-is : (i : ℕ) → i < c .p → (d : MeasuredPoint) → getD (sheet-of s c .points) i d ≡ measured-point (points-bytes s c) (rows-bytes s c) i
   unfolding sheet-of
-  stop-is i h d = getD-table (c .p) (stop-of (points-bytes s c) (rows-bytes s c)) i d h
+  measured-point-is i h d = getD-table (c .p) (measured-point (points-bytes s c) (rows-bytes s c)) i d h
 
-  pub rows-are : (i : ℕ) → i < c .p → stop-of (points-bytes s c) (rows-bytes s c) i .rows ≡ tab (row-count s i) (rows-before s i) (row-of (rows-bytes s c))
-  unfolding stop-of
+  pub rows-are : (i : ℕ) → i < c .p → measured-point (points-bytes s c) (rows-bytes s c) i .rows ≡ tabulate (row-count s i) (rows-before s i) (row-of (rows-bytes s c))
+  unfolding measured-point
   rows-are i h = rw (count-is i h, before-is i (omega arith))
 
   -- row k
@@ -101,7 +101,7 @@ module _ (s : List ℕ) (c : Counts) where
   unfolding row-of row-road
   row-road-is k h = u32-section s (rows-at c) (c .m * 40) (k * 40) (rows-at c + k * 40 + 0) (omega arith) (omega arith)
 
-  pub row-distance-is : (k : ℕ) → k < c .m → row-of (rows-bytes s c) k .distance ≡ f64-at s (rows-at c + k * 40 + 8)
+  pub row-distance-is : (k : ℕ) → k < c .m → row-of (rows-bytes s c) k .«distance_m» ≡ f64-at s (rows-at c + k * 40 + 8)
   unfolding row-of
   row-distance-is k h = f64-section s (rows-at c) (c .m * 40) (k * 40 + 8) _ (omega arith) (omega arith)
 
@@ -109,11 +109,11 @@ module _ (s : List ℕ) (c : Counts) where
   unfolding row-of
   row-bearing-is k h = f64-section s (rows-at c) (c .m * 40) (k * 40 + 16) _ (omega arith) (omega arith)
 
-  pub row-along-is : (k : ℕ) → k < c .m → row-of (rows-bytes s c) k .along ≡ f64-at s (rows-at c + k * 40 + 24)
+  pub row-along-is : (k : ℕ) → k < c .m → row-of (rows-bytes s c) k .«along_m» ≡ f64-at s (rows-at c + k * 40 + 24)
   unfolding row-of
   row-along-is k h = f64-section s (rows-at c) (c .m * 40) (k * 40 + 24) _ (omega arith) (omega arith)
 
-  pub row-line-is : (k : ℕ) → k < c .m → row-of (rows-bytes s c) k .line ≡ f64-at s (rows-at c + k * 40 + 32)
+  pub row-line-is : (k : ℕ) → k < c .m → row-of (rows-bytes s c) k .«length_m» ≡ f64-at s (rows-at c + k * 40 + 32)
   unfolding row-of
   row-line-is k h = f64-section s (rows-at c) (c .m * 40) (k * 40 + 32) _ (omega arith) (omega arith)
 

@@ -10,7 +10,7 @@ use lib.Dec.{eqb}
 use Rattle.model.specs.declared.Verdict.{Verdict}
 use Rattle.model.specs.declared.Verdict.the-variants.{Good, Bad}
 use Rattle.model.specs.Layout.{most-nodes, most-goals, goal-width}
-use Rattle.model.specs.Table.{Field, need, _then_, check, check-then, records, alike, every, met}
+use Rattle.model.specs.Table.{Field, need, _then_, check, check-then, records, fields-alike, every, met}
 
 one-less : (k : ℕ) → 0 < k → k ≡ suc (k - 1)
 one-less k h = omega arith
@@ -32,21 +32,21 @@ goal-bytes g n p q = let h : goal-width n ≤ goal-width most-nodes = omega arit
 -- ---- fields alike
 
 module _ (f : ℕ → Field) (w : ℕ) (s : List ℕ) (at o k : ℕ) (v : Verdict) where
-  alike-step : 0 < k → check-then s at (alike f w o k) v ≡ need (f o .good s at) (at + f o .off) (check-then s at (alike f w (o + w) (k - 1)) v)
-  unfolding alike check-then
-  alike-step h = ap (λ (n : ℕ). check-then s at (alike f w o n) v) (one-less k h)
+  alike-step : 0 < k → check-then s at (fields-alike f w o k) v ≡ need (f o .good s at) (at + f o .off) (check-then s at (fields-alike f w (o + w) (k - 1)) v)
+  unfolding fields-alike check-then
+  alike-step h = ap (λ (n : ℕ). check-then s at (fields-alike f w o n) v) (one-less k h)
 
-  pub alike-good : 0 < k → f o .good s at ≡ true → check-then s at (alike f w (o + w) (k - 1)) v ≡ check-then s at (alike f w o k) v
+  pub alike-good : 0 < k → f o .good s at ≡ true → check-then s at (fields-alike f w (o + w) (k - 1)) v ≡ check-then s at (fields-alike f w o k) v
   unfolding need
   alike-good h e = rw (alike-step h, e, need)
 
-  pub alike-bad : 0 < k → f o .good s at ≡ false → Bad (at + f o .off) ≡ check-then s at (alike f w o k) v
+  pub alike-bad : 0 < k → f o .good s at ≡ false → Bad (at + f o .off) ≡ check-then s at (fields-alike f w o k) v
   unfolding need
   alike-bad h e = rw (alike-step h, e, need)
 
-  pub alike-none : k ≤ 0 → v ≡ check-then s at (alike f w o k) v
-  unfolding alike check-then
-  alike-none h = ap (λ (n : ℕ). check-then s at (alike f w o n) v) {x = 0} {y = k} (omega arith)
+  pub alike-none : k ≤ 0 → v ≡ check-then s at (fields-alike f w o k) v
+  unfolding fields-alike check-then
+  alike-none h = ap (λ (n : ℕ). check-then s at (fields-alike f w o n) v) {x = 0} {y = k} (omega arith)
 
 -- ---- records
 

@@ -13,11 +13,11 @@ use Rattle.model.specs.Table.{all-of}
 use Rattle.model.specs.Judge.{judged}
 use Rattle.model.specs.Sheet.{Sheet, road-at, parsed}
 use Rattle.model.specs.View.{view}
-use Rattle.model.specs.Search.{Searcher, bounded-astar}
-use Rattle.model.specs.Legs.{Coverage}
-use Rattle.model.specs.Decode.{Course, Outcome, outcome}
+use Rattle.model.specs.Search.{Search, bounded-astar}
+use Rattle.model.specs.Legs.{EdgeCoverage}
+use Rattle.model.specs.Decode.{FullPath, Outcome, outcome}
 use Rattle.model.specs.Decode as outcomes
-use Rattle.model.specs.Ends.{Ends, finalize-path, offset-fraction}
+use Rattle.model.specs.Ends.{FinalPath, finalize-path, offset-fraction}
 
 -- The two answer lists.
 pub record Lists : Type 0 where
@@ -56,19 +56,19 @@ pub record Decoded : Type 0 where
 unfoldable pub written : Sheet → List ℕ → Lists → Lists
 written t path l = record {
   ids = pad (length (l .ids)) 0 (map (λ r. road-at t r .id) path);
-  lengths = pad (length (l .lengths)) f0 (map (λ r. road-at t r .metres) path);
+  lengths = pad (length (l .lengths)) f0 (map (λ r. road-at t r .«length_m») path);
 }
 
-unfoldable pub match-of : Sheet → Course → Coverage → Ends → Match
+unfoldable pub match-of : Sheet → FullPath → EdgeCoverage → FinalPath → Match
 match-of t k c e = record {
   count = length (e .path);
-  length-m = k .total;
+  length-m = k .total-length;
   start-offset = e .start-offset;
   start-fraction = offset-fraction t (e .start-offset) (head (e .path));
   end-offset = e .end-offset;
   end-fraction = offset-fraction t (e .end-offset) (last (e .path));
   primary = c .road .id;
-  coverage = c .metres;
+  coverage = c .coverage-m;
 }
 
 -- refusals 7 to 11 zero the lists; a match zeroes what is behind the path
@@ -83,8 +83,8 @@ abbrev pub most-entries : ℕ → ℕ → ℕ
 most-entries points nodes = (points + 4) * (nodes + 1)
 
 -- what refusal 6 asks of what is lent
-unfoldable pub roomy : ℕ → ℕ → Lent → Bool
-roomy points nodes lent = all-of
+unfoldable pub has-room : ℕ → ℕ → Lent → Bool
+has-room points nodes lent = all-of
     (leb nodes (lent .node)
     ∷ leb 1 (lent .heap)
     ∷ leb (most-entries points nodes) (lent .coverage)
@@ -97,16 +97,16 @@ unfoldable pub untouched : ℕ → ℕ → Lists → Decoded
 untouched number at l = record { answer = refused number at 0; lists = l }
 
 -- a parsed sheet decoded by some search
-unfoldable pub decode-by : Searcher → Sheet → Lent → Decoded
-decode-by search t lent = cond (roomy (length (t .stops)) (t .nodes) lent) (answered t (lent .lists) (outcome (view t) search)) (untouched 6 0 (lent .lists))
+unfoldable pub decode-by : Search → Sheet → Lent → Decoded
+decode-by search t lent = cond (has-room (length (t .points)) (t .nodes) lent) (answered t (lent .lists) (outcome (view t) search)) (untouched 6 0 (lent .lists))
 
 unfoldable pub decode-sheet : Sheet → Lent → Decoded
 decode-sheet t lent = decode-by (bounded-astar (lent .heap)) t lent
 
 -- refusals 1 to 5, or on with the parsed sheet
 unfoldable pub after-judging : Judged → List ℕ → Lists → (Sheet → Decoded) → Decoded
-after-judging (Refused number at) s l again = untouched number at l
-after-judging Fine s l again = again (parsed s)
+after-judging (Refused number at) s l next = untouched number at l
+after-judging Fine s l next = next (parsed s)
 
 unfoldable pub decode : List ℕ → Lent → Decoded
 decode s lent = after-judging (judged s) s (lent .lists) (λ t. decode-sheet t lent)

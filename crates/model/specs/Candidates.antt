@@ -11,8 +11,8 @@ use Rattle.model.specs.declared.Settings.{Settings}
 use Rattle.model.specs.declared.Point.{Point}
 use Rattle.model.specs.declared.Road.{Road}
 use Rattle.model.specs.Numbers.{_⊕_, _⊖_, _⊗_, _⊘_, _<ᶠ_, fmin, fabs, nat, f0, half, three-quarters, f1, f180, f360, infinity}
-use Rattle.model.specs.Lists.{any, when, collect, sort, fold}
-use Rattle.model.specs.View.{Spot, Place, is-slip}
+use Rattle.model.specs.Lists.{any, when, filter-map, sort, fold}
+use Rattle.model.specs.View.{Projection, ProjectedPoint, is-slip}
 
 -- ---- leaves
 
@@ -68,12 +68,12 @@ substitution-score wanted actual = getD (getD fow-score-matrix wanted []) actual
 -- The code's struct has the number; candidates/specs/Found says how the two belong together.
 pub record Candidate : Type 0 where
   pub road : Road
-  pub distance : Float
+  pub distance-m : Float
   pub bearing-diff : Float
   pub frc-diff : ℕ
   pub fow-score : Float
   pub score : Float
-  pub fraction : Float
+  pub projection-fraction : Float
 
 -- a zero maximum gives penalty 0
 unfoldable pub normalize : Float → Float → Float
@@ -87,29 +87,29 @@ compute-score c distance bearing class fow =
     ⊕ c .«frc_weight» ⊗ normalize (nat class) (nat (c .«frc_tolerance»))
     ⊕ c .«fow_weight» ⊗ (f1 ⊖ fow)
 
-unfoldable pub candidate-of : Settings → Point → Spot → Candidate
+unfoldable pub candidate-of : Settings → Point → Projection → Candidate
 candidate-of c p s =
     let bearing = bearing-difference (nat (p .bearing)) (s .row .bearing) in
     let class = class-difference (s .road .frc) (p .frc) in
     let fow = substitution-score (p .fow) (s .road .fow) in
     record {
       road = s .road;
-      distance = s .row .distance;
+      distance-m = s .row .«distance_m»;
       bearing-diff = bearing;
       frc-diff = class;
       fow-score = fow;
-      score = compute-score c (s .row .distance) bearing class fow;
-      fraction = fraction (s .row .along) (s .row .line);
+      score = compute-score c (s .row .«distance_m») bearing class fow;
+      projection-fraction = fraction (s .row .«along_m») (s .row .«length_m»);
     }
 
 -- A class difference above the tolerance drops the road unless it is a slip road; distance and bearing drop it only above their maxima.
 unfoldable pub passes : Settings → Candidate → Bool
 passes c x =
     not (ltb (c .«frc_tolerance») (x .frc-diff) && not (is-slip (x .road)))
-    && not (c .«search_radius_m» <ᶠ x .distance)
+    && not (c .«search_radius_m» <ᶠ x .distance-m)
     && not (c .«max_bearing_diff» <ᶠ x .bearing-diff)
 
-unfoldable pub candidate : Settings → Point → Spot → Option Candidate
+unfoldable pub candidate : Settings → Point → Projection → Option Candidate
 candidate c p s = let x = candidate-of c p s in when (passes c x) x
 
 -- by score, then road number; no score is a NaN or -0, where the order of numbers would differ from total_cmp
@@ -117,14 +117,14 @@ unfoldable pub better : Candidate → Candidate → Bool
 better a b = a .score <ᶠ b .score || (eq (a .score) (b .score) && ltb (a .road .number) (b .road .number))
 
 -- Sorted, then cut to the most candidates. That the last point looks Backward is in the host's measured bearings.
-unfoldable pub find-candidates : Settings → Place → List Candidate
-find-candidates c p = take (c .«max_candidates») (sort better (collect (candidate c (p .point)) (p .spots)))
+unfoldable pub find-candidates : Settings → ProjectedPoint → List Candidate
+find-candidates c p = take (c .«max_candidates») (sort better (filter-map (candidate c (p .point)) (p .projections)))
 
 -- ---- require_close_candidate
 
 -- the least candidate distance of a point
 unfoldable pub nearest : List Candidate → Float
-nearest xs = fold (λ d x. fmin d (x .distance)) infinity xs
+nearest xs = fold (λ d x. fmin d (x .distance-m)) infinity xs
 
 pub record Closest : Type 0 where
   pub point : ℕ

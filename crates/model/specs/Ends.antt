@@ -11,10 +11,10 @@ use Rattle.model.specs.declared.Settings.{Settings}
 use Rattle.model.specs.declared.Road.{Road}
 use Rattle.model.specs.declared.Neighbour.{Neighbour}
 use Rattle.model.specs.Numbers.{_⊕_, _⊖_, _⊘_, _<ᶠ_, fmin, fmax, f0}
-use Rattle.model.specs.Lists.{any, first, head, last, maybe, fold}
+use Rattle.model.specs.Lists.{any, find, head, last, maybe, fold}
 use Rattle.model.specs.Sheet.{Sheet, road-at, numbers, list-at}
 use Rattle.model.specs.View.{max-valid-distance}
-use Rattle.model.specs.Decode.{Segment, Course}
+use Rattle.model.specs.Decode.{SegmentInfo, FullPath}
 
 -- ---- is_valid_node: a walk over the roads by rising number
 
@@ -56,11 +56,11 @@ is-valid-node t n = not (passes-through n (around t n))
 
 -- the way on from the end of road r that is no U-turn
 unfoldable pub way-on : Sheet → ℕ → Option ℕ
-way-on t r = first (λ x. not (eqb (road-at t x .target) (road-at t r .source))) (list-at t (road-at t r .target))
+way-on t r = find (λ x. not (eqb (road-at t x .target) (road-at t r .source))) (list-at t (road-at t r .target))
 
 -- the way into its start
 unfoldable pub way-back : Sheet → ℕ → Option ℕ
-way-back t r = first (λ x. eqb (road-at t x .target) (road-at t r .source) && not (eqb (road-at t x .source) (road-at t r .target))) (numbers t)
+way-back t r = find (λ x. eqb (road-at t x .target) (road-at t r .source) && not (eqb (road-at t x .source) (road-at t r .target))) (numbers t)
 
 -- each of them, where the node gives no choice
 unfoldable pub forced-continuation : Sheet → ℕ → Option ℕ
@@ -77,13 +77,13 @@ way t forward r = cond forward (forced-continuation t r) (forced-predecessor t r
 -- Roads added at an end, the nearest first, and their length.
 pub record Walk : Type 0 where
   pub added : List ℕ
-  pub metres : Float
+  pub added-m : Float
 
-abbrev pub fresh : Walk
-fresh = record { added = []; metres = f0 }
+abbrev pub no-walk : Walk
+no-walk = record { added = []; added-m = f0 }
 
 abbrev pub with-road : Sheet → ℕ → Walk → Walk
-with-road t x w = record { added = w .added ++ x ∷ []; metres = w .metres ⊕ road-at t x .metres }
+with-road t x w = record { added = w .added ++ x ∷ []; added-m = w .added-m ⊕ road-at t x .«length_m» }
 
 unfoldable pub meets : ℕ → List ℕ → Bool
 meets x rs = any (λ r. eqb r x) rs
@@ -98,16 +98,22 @@ walk zero t forward cap path r w = none
 walk (suc k) t forward cap path r w =
     maybe (way t forward r) (walked w) (λ x.
     cond (meets x (path ++ w .added)) none
-    (cond (cap <ᶠ with-road t x w .metres) none
+    (cond (cap <ᶠ with-road t x w .added-m) none
     (walk k t forward cap path x (with-road t x w))))
 
 abbrev pub extension : Sheet → Bool → Float → List ℕ → ℕ → Option Walk
-extension t forward cap path r = walk (suc (2 * t .nodes)) t forward cap path r fresh
+extension t forward cap path r = walk (suc (2 * t .nodes)) t forward cap path r no-walk
+
+abbrev pub forward-extension : Sheet → Float → List ℕ → ℕ → Option Walk
+forward-extension t cap path r = extension t true cap path r
+
+abbrev pub backward-extension : Sheet → Float → List ℕ → ℕ → Option Walk
+backward-extension t cap path r = extension t false cap path r
 
 -- ---- finalize_path
 
 -- snap_cap_m: 0 with snapping off, so roads of length 0 can still be added
-unfoldable pub snap-cap-m : Settings → Segment → Float
+unfoldable pub snap-cap-m : Settings → SegmentInfo → Float
 snap-cap-m c g = cond (c .«snap_to_valid_nodes») (fmax (fmin (c .«max_snap_extension_m») (max-valid-distance c (g .expected-m) ⊖ g .length-m)) f0) f0
 
 -- the walk is kept only if the point is strictly nearer the new end
@@ -115,50 +121,50 @@ abbrev pub lrp-prefers : List Float → ℕ → ℕ → Bool
 lrp-prefers distances new old = getD distances new f0 <ᶠ getD distances old f0
 
 -- A path and the offset at the end that is looked at.
-pub record End : Type 0 where
+pub record PathEnd : Type 0 where
   pub path : List ℕ
   pub offset : Float
 
-unfoldable pub at-end : Sheet → Float → End → End
+unfoldable pub at-end : Sheet → Float → PathEnd → PathEnd
 at-end t cap e =
     maybe (last (e .path)) e (λ r.
-    maybe (extension t true cap (e .path) r) e (λ w.
+    maybe (forward-extension t cap (e .path) r) e (λ w.
     maybe (last (w .added)) e (λ x.
     cond (lrp-prefers (t .from-last) (road-at t x .target) (road-at t r .target))
-    (record { path = e .path ++ w .added; offset = e .offset ⊕ w .metres })
+    (record { path = e .path ++ w .added; offset = e .offset ⊕ w .added-m })
     e)))
 
-unfoldable pub at-start : Sheet → Float → End → End
+unfoldable pub at-start : Sheet → Float → PathEnd → PathEnd
 at-start t cap e =
     maybe (head (e .path)) e (λ r.
-    maybe (extension t false cap (e .path) r) e (λ w.
+    maybe (backward-extension t cap (e .path) r) e (λ w.
     maybe (last (w .added)) e (λ x.
     cond (lrp-prefers (t .from-first) (road-at t x .source) (road-at t r .source))
-    (record { path = reverse (w .added) ++ e .path; offset = e .offset ⊕ w .metres })
+    (record { path = reverse (w .added) ++ e .path; offset = e .offset ⊕ w .added-m })
     e)))
 
 -- The whole path and its offsets in metres: those of the projections, the reference's own are not on the sheet.
-pub record Ends : Type 0 where
+pub record FinalPath : Type 0 where
   pub path : List ℕ
   pub start-offset : Float
   pub end-offset : Float
 
-abbrev pub ends-of : Course → Ends
-ends-of k = record { path = map (λ (r : Road). r .number) (k .roads); start-offset = k .first-segment .start-offset; end-offset = k .last-segment .end-offset }
+abbrev pub final-path-of : FullPath → FinalPath
+final-path-of k = record { path = map (λ (r : Road). r .number) (k .roads); start-offset = k .first-segment .start-offset-m; end-offset = k .last-segment .end-offset-m }
 
 -- forward comes before backward
-unfoldable pub extend-ends : Sheet → Float → Float → Ends → Ends
+unfoldable pub extend-ends : Sheet → Float → Float → FinalPath → FinalPath
 extend-ends t start-cap end-cap p =
     let f = at-end t end-cap (record { path = p .path; offset = p .end-offset }) in
     let b = at-start t start-cap (record { path = f .path; offset = p .start-offset }) in
     record { path = b .path; start-offset = b .offset; end-offset = f .offset }
 
-unfoldable pub finalize-path : Sheet → Course → Ends
-finalize-path t k = extend-ends t (snap-cap-m (t .settings) (k .first-segment)) (snap-cap-m (t .settings) (k .last-segment)) (ends-of k)
+unfoldable pub finalize-path : Sheet → FullPath → FinalPath
+finalize-path t k = extend-ends t (snap-cap-m (t .settings) (k .first-segment)) (snap-cap-m (t .settings) (k .last-segment)) (final-path-of k)
 
 -- an offset as a fraction of its road's length: not held to 0 to 1, and +infinity can come out
 unfoldable pub part-of : Float → Float → Float
 part-of offset metres = cond (f0 <ᶠ metres) (offset ⊘ metres) f0
 
 unfoldable pub offset-fraction : Sheet → Float → Option ℕ → Float
-offset-fraction t offset r = maybe r f0 (λ x. part-of offset (road-at t x .metres))
+offset-fraction t offset r = maybe r f0 (λ x. part-of offset (road-at t x .«length_m»))

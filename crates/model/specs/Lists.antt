@@ -20,9 +20,9 @@ module _ {A : Type 0} where
   cons-some (some x) xs = x ∷ xs
 
   -- those that pass the test
-  unfoldable pub keep : (A → Bool) → List A → List A
-  keep p [] = []
-  keep p (x ∷ xs) = cons-if (p x) x (keep p xs)
+  unfoldable pub filter : (A → Bool) → List A → List A
+  filter p [] = []
+  filter p (x ∷ xs) = cons-if (p x) x (filter p xs)
 
   unfoldable pub any : (A → Bool) → List A → Bool
   any p [] = false
@@ -33,9 +33,9 @@ module _ {A : Type 0} where
   all p (x ∷ xs) = p x && all p xs
 
   -- the first that passes the test
-  unfoldable pub first : (A → Bool) → List A → Option A
-  first p [] = none
-  first p (x ∷ xs) = cond (p x) (some x) (first p xs)
+  unfoldable pub find : (A → Bool) → List A → Option A
+  find p [] = none
+  find p (x ∷ xs) = cond (p x) (some x) (find p xs)
 
   unfoldable pub head : List A → Option A
   head [] = none
@@ -47,10 +47,10 @@ module _ {A : Type 0} where
   last (x ∷ y ∷ ys) = last (y ∷ ys)
 
   -- all but the last
-  unfoldable pub front : List A → List A
-  front [] = []
-  front (x ∷ []) = []
-  front (x ∷ y ∷ ys) = x ∷ front (y ∷ ys)
+  unfoldable pub init : List A → List A
+  init [] = []
+  init (x ∷ []) = []
+  init (x ∷ y ∷ ys) = x ∷ init (y ∷ ys)
 
   -- x goes before the first y that is above it
   unfoldable pub insert : (A → A → Bool) → A → List A → List A
@@ -58,9 +58,9 @@ module _ {A : Type 0} where
   insert below x (y ∷ ys) = cond (below x y) (x ∷ y ∷ ys) (y ∷ insert below x ys)
 
   -- f i, f (i + 1), .. : n of them
-  unfoldable pub tab : ℕ → ℕ → (ℕ → A) → List A
-  tab zero i f = []
-  tab (suc n) i f = f i ∷ tab n (i + 1) f
+  unfoldable pub tabulate : ℕ → ℕ → (ℕ → A) → List A
+  tabulate zero i f = []
+  tabulate (suc n) i f = f i ∷ tabulate n (i + 1) f
 
   -- xs, then the filler up to n entries
   unfoldable pub pad : ℕ → A → List A → List A
@@ -78,9 +78,9 @@ module _ {A B : Type 0} where
   maybe (some x) b f = f x
 
   -- the values that f gives, without the nones
-  unfoldable pub collect : (A → Option B) → List A → List B
-  collect f [] = []
-  collect f (x ∷ xs) = cons-some (f x) (collect f xs)
+  unfoldable pub filter-map : (A → Option B) → List A → List B
+  filter-map f [] = []
+  filter-map f (x ∷ xs) = cons-some (f x) (filter-map f xs)
 
   unfoldable pub fold : (B → A → B) → B → List A → B
   fold f b [] = b

@@ -9,7 +9,7 @@ use Rattle.model.specs.declared.Point.{Point}
 use Rattle.model.specs.declared.Road.{Road}
 use Rattle.model.specs.Numbers.{bits, nat, f0, f1}
 use Rattle.model.specs.Sheet.{Sheet, settings-of}
-use Rattle.model.specs.View.{Spot, max-valid-distance, raised}
+use Rattle.model.specs.View.{Projection, max-valid-distance, raised}
 use Rattle.model.specs.Candidates.{bearing-difference, fraction, compute-score, candidate-of, passes}
 use Rattle.model.specs.Legs.{stays}
 use Rattle.model.specs.Ends.{is-valid-node}
@@ -62,10 +62,10 @@ abbrev pub defaults : Settings
 defaults = settings-of default-settings
 
 -- a road of this class and form of way, and a point of class 1 on it
-abbrev pub class-spot : ℕ → ℕ → Spot
-class-spot frc fow = record {
-  row = record { road = 0; distance = f0; bearing = nat 90; along = nat 25; line = nat 100 };
-  road = record { number = 0; id = 700; metres = nat 100; source = 0; target = 1; frc = frc; fow = fow; access = false };
+abbrev pub class-projection : ℕ → ℕ → Projection
+class-projection frc fow = record {
+  row = record { road = 0; «distance_m» = f0; bearing = nat 90; «along_m» = nat 25; «length_m» = nat 100 };
+  road = record { number = 0; id = 700; «length_m» = nat 100; source = 0; target = 1; frc = frc; fow = fow; access = false };
 }
 
 abbrev pub class-1 : Point
@@ -73,7 +73,7 @@ class-1 = record { dnp = nat 50; bearing = 90; frc = 1; fow = 3; limit = 3 }
 
 -- a one-way road between two nodes
 abbrev pub one-way : ℕ → ℕ → ℕ → Road
-one-way number source target = record { number = number; id = 700; metres = nat 100; source = source; target = target; frc = 3; fow = 3; access = false }
+one-way number source target = record { number = number; id = 700; «length_m» = nat 100; source = source; target = target; frc = 3; fow = 3; access = false }
 
 -- node 2 fed by two one-way roads, none out
 abbrev pub fed : Sheet
@@ -81,7 +81,7 @@ fed = record {
   kind = 1;
   nodes = 3;
   settings = defaults;
-  stops = [];
+  points = [];
   roads = one-way 0 0 2 ∷ one-way 1 1 2 ∷ [];
   lists = (0 ∷ []) ∷ (1 ∷ []) ∷ [] ∷ [];
   from-first = [];
@@ -116,7 +116,7 @@ pub record MarkedSet : Type 0 where
   pub s5 : (bearing-difference (nat 350) (nat 10) ≡ nat 20) × (bearing-difference (nat 0) (nat 180) ≡ nat 180)
   pub s6 : raised 2 6 ≡ 7
   pub s7 : (fraction (nat 120) (nat 100) ≡ f1) × (fraction (nat 120) f0 ≡ f0)
-  pub s8 : (passes defaults (candidate-of defaults class-1 (class-spot 4 3)) ≡ false) × (passes defaults (candidate-of defaults class-1 (class-spot 4 6)) ≡ true)
+  pub s8 : (passes defaults (candidate-of defaults class-1 (class-projection 4 3)) ≡ false) × (passes defaults (candidate-of defaults class-1 (class-projection 4 6)) ≡ true)
   pub s9 : compute-score defaults (nat 50) f0 0 f1 ≡ nat 5
   pub s10 : max-valid-distance defaults (nat 100) ≡ nat 200
   pub s11 : (stays (nat 3) (nat 100) ≡ true) × (stays (nat 2) (nat 100) ≡ false)

@@ -16,20 +16,20 @@ use Rattle.model.specs.Numbers.{_⊕_, _<ᶠ_, _≤ᶠ_, f0}
 use Rattle.model.specs.Lists.{when, maybe}
 use Rattle.model.specs.Heap.{push, pop}
 
--- What a search is asked: the way to `goal`, no path longer than `bound` metres, `ahead v` being the distance from v to the goal.
+-- What a search is asked: the way to `goal`, no path longer than `max-cost` metres, `heuristic v` being the distance from v to the goal.
 pub record Query : Type 0 where
   pub nodes : ℕ
   pub leaving : ℕ → List Road
   pub penalty : Road → Float
-  pub ahead : ℕ → Float
+  pub heuristic : ℕ → Float
   pub goal : ℕ
-  pub bound : Float
+  pub max-cost : Float
 
 -- A search ends as found with its cost and its roads in travel order, as none or as full.
-pub data Found : Type 0 where
-  found : Float → List Road → Found
-  none-found : Found
-  full : Found
+pub data SearchEnd : Type 0 where
+  found : Float → List Road → SearchEnd
+  none-found : SearchEnd
+  full : SearchEnd
 
 -- ---- the state
 
@@ -39,10 +39,10 @@ pub record Label : Type 0 where
   pub penalised : Float
   pub came-from : Option Road
 
--- A heap entry: its key is the penalised cost plus the distance to the goal.
+-- A heap entry: its g-score is the penalised cost, its f-score that and the distance to the goal.
 pub record Entry : Type 0 where
-  pub key : Float
-  pub cost : Float
+  pub f-score : Float
+  pub g-score : Float
   pub node : ℕ
 
 -- The labels of all nodes; the entries made so far, in that order; the heap of their numbers.
@@ -55,13 +55,13 @@ abbrev pub label-at : List (Option Label) → ℕ → Option Label
 label-at ls v = getD ls v none
 
 abbrev pub no-entry : Entry
-no-entry = record { key = f0; cost = f0; node = 0 }
+no-entry = record { f-score = f0; g-score = f0; node = 0 }
 
 abbrev pub entry-at : List Entry → ℕ → Entry
 entry-at es k = getD es k no-entry
 
-abbrev pub key-of : List Entry → ℕ → Float
-key-of es k = entry-at es k .key
+abbrev pub f-score-of : List Entry → ℕ → Float
+f-score-of es k = entry-at es k .f-score
 
 unfoldable pub real-of : Option Label → Float
 real-of none = f0
@@ -82,15 +82,15 @@ stale (some l) g = l .penalised <ᶠ g
 -- The label that road r offers its target from the entry e. Real length decides the bound, penalised cost decides dominance.
 unfoldable pub offered : Query → Entry → List (Option Label) → Road → Option Label
 offered q e ls r =
-    let real = real-of (label-at ls (e .node)) ⊕ r .metres in
-    let cost = e .cost ⊕ r .metres ⊕ q .penalty r in
-    cond (q .bound <ᶠ real || dominated (label-at ls (r .target)) cost) none (some record { real = real; penalised = cost; came-from = some r })
+    let real = real-of (label-at ls (e .node)) ⊕ r .«length_m» in
+    let cost = e .g-score ⊕ r .«length_m» ⊕ q .penalty r in
+    cond (q .max-cost <ᶠ real || dominated (label-at ls (r .target)) cost) none (some record { real = real; penalised = cost; came-from = some r })
 
 -- Node v gets the label l and an entry. None: the heap has no slot left; slots are not reused.
 unfoldable pub entered : ℕ → Query → State → ℕ → Label → Option State
 entered slots q st v l =
-    let made = st .made ++ record { key = l .penalised ⊕ q .ahead v; cost = l .penalised; node = v } ∷ [] in
-    when (ltb (length (st .made)) slots) record { labels = set (st .labels) v (some l); made = made; heap = push (key-of made) (st .heap) (length (st .made)) }
+    let made = st .made ++ record { f-score = l .penalised ⊕ q .heuristic v; g-score = l .penalised; node = v } ∷ [] in
+    when (ltb (length (st .made)) slots) record { labels = set (st .labels) v (some l); made = made; heap = push (f-score-of made) (st .heap) (length (st .made)) }
 
 unfoldable pub relax : ℕ → Query → Entry → State → Road → Option State
 relax slots q e st r = maybe (offered q e (st .labels) r) (some st) (entered slots q st (r .target))
@@ -113,7 +113,7 @@ trace (suc k) ls v path = maybe (came-from (label-at ls v)) path (λ r. trace k 
 -- ---- the search
 
 pub data Step : Type 0 where
-  stop : Found → Step
+  stop : SearchEnd → Step
   more : State → Step
 
 unfoldable pub expanded : Option State → Step
@@ -124,19 +124,19 @@ expanded (some st) = more st
 unfoldable pub visit : ℕ → ℕ → Query → Entry → State → Step
 visit steps slots q e st =
     cond (eqb (e .node) (q .goal)) (stop (found (real-of (label-at (st .labels) (q .goal))) (trace steps (st .labels) (q .goal) [])))
-    (cond (stale (label-at (st .labels) (e .node)) (e .cost)) (more st)
+    (cond (stale (label-at (st .labels) (e .node)) (e .g-score)) (more st)
     (expanded (relax-all slots q e (q .leaving (e .node)) st)))
 
 unfoldable pub take-step : ℕ → ℕ → Query → List ℕ → State → Step
 take-step steps slots q [] st = stop none-found
-take-step steps slots q (top ∷ rest) st = visit steps slots q (entry-at (st .made) top) record { labels = st .labels; made = st .made; heap = pop (key-of (st .made)) (st .heap) }
+take-step steps slots q (top ∷ rest) st = visit steps slots q (entry-at (st .made) top) record { labels = st .labels; made = st .made; heap = pop (f-score-of (st .made)) (st .heap) }
 
-unfoldable pub onward : Step → (State → Found) → Found
-onward (stop f) again = f
-onward (more st) again = again st
+unfoldable pub onward : Step → (State → SearchEnd) → SearchEnd
+onward (stop f) next = f
+onward (more st) next = next st
 
 -- Turns, each taking one entry, and steps of the walk back are bounded; crate bounds shows that neither bound is ever met.
-unfoldable pub run : ℕ → ℕ → ℕ → Query → State → Found
+unfoldable pub run : ℕ → ℕ → ℕ → Query → State → SearchEnd
 run steps zero slots q st = none-found
 run steps (suc k) slots q st = onward (take-step steps slots q (st .heap) st) (run steps k slots q)
 
@@ -144,19 +144,19 @@ run steps (suc k) slots q st = onward (take-step steps slots q (st .heap) st) (r
 unfoldable pub begun : Query → ℕ → State
 begun q start = record {
   labels = set (replicate (q .nodes) none) start (some record { real = f0; penalised = f0; came-from = none });
-  made = record { key = q .ahead start; cost = f0; node = start } ∷ [];
+  made = record { f-score = q .heuristic start; g-score = f0; node = start } ∷ [];
   heap = 0 ∷ [];
 }
 
 -- with any bounds on the steps back and on the turns
-unfoldable pub search-within : ℕ → ℕ → ℕ → Query → ℕ → Found
+unfoldable pub search-within : ℕ → ℕ → ℕ → Query → ℕ → SearchEnd
 search-within steps turns slots q start = run steps turns slots q (begun q start)
 
 -- A heap of `slots` entries; without one it is full at once, since the start's entry counts too. No node comes twice on the walk back, and no more entries are taken than made.
-unfoldable pub bounded-astar : ℕ → Query → ℕ → Found
+unfoldable pub bounded-astar : ℕ → Query → ℕ → SearchEnd
 bounded-astar zero q start = full
 bounded-astar (suc k) q start = search-within (q .nodes - 1) (suc k) (suc k) q start
 
 -- a way of answering queries, from a start node
-abbrev pub Searcher : Type 0
-Searcher = Query → ℕ → Found
+abbrev pub Search : Type 0
+Search = Query → ℕ → SearchEnd

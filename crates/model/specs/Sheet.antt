@@ -11,13 +11,13 @@ use Rattle.model.specs.declared.Point.{Point}
 use Rattle.model.specs.declared.Row.{Row}
 use Rattle.model.specs.declared.Road.{Road}
 use Rattle.model.specs.Numbers.{f0}
-use Rattle.model.specs.Lists.{tab}
+use Rattle.model.specs.Lists.{tabulate}
 use Rattle.model.specs.Bytes.{u8-at, u16-at, u32-at, u64-at, f64-at}
 use Rattle.model.specs.Layout.{counts-of, settings-bytes, points-bytes, road-bytes, rows-bytes, distances-bytes, goal-width}
 use Rattle.model.specs.Judge.{start-of, entry-of}
 
 -- A point with its measured rows.
-pub record Stop : Type 0 where
+pub record MeasuredPoint : Type 0 where
   pub point : Point
   pub rows : List Row
 
@@ -31,7 +31,7 @@ pub record Sheet : Type 0 where
   pub kind : ℕ
   pub nodes : ℕ
   pub settings : Settings
-  pub stops : List Stop
+  pub points : List MeasuredPoint
   pub roads : List Road
   pub lists : List (List ℕ)
   pub from-first : List Float
@@ -64,7 +64,7 @@ unfoldable pub point-of : List ℕ → ℕ → Point
 point-of b i = record { dnp = f64-at b (i * 24); bearing = u16-at b (i * 24 + 8); frc = u8-at b (i * 24 + 10); fow = u8-at b (i * 24 + 11); limit = u8-at b (i * 24 + 12) }
 
 unfoldable pub row-of : List ℕ → ℕ → Row
-row-of b k = record { road = u32-at b (k * 40); distance = f64-at b (k * 40 + 8); bearing = f64-at b (k * 40 + 16); along = f64-at b (k * 40 + 24); line = f64-at b (k * 40 + 32) }
+row-of b k = record { road = u32-at b (k * 40); «distance_m» = f64-at b (k * 40 + 8); bearing = f64-at b (k * 40 + 16); «along_m» = f64-at b (k * 40 + 24); «length_m» = f64-at b (k * 40 + 32) }
 
 -- the row count of point i, and the rows of the points before it, from the points' bytes
 unfoldable pub count-in : List ℕ → ℕ → ℕ
@@ -75,33 +75,33 @@ before-in b zero = 0
 before-in b (suc i) = before-in b i + count-in b i
 
 -- point i with its rows, from the bytes of the points and of the rows
-unfoldable pub stop-of : List ℕ → List ℕ → ℕ → Stop
-stop-of points rows i = record { point = point-of points i; rows = tab (count-in points i) (before-in points i) (row-of rows) }
+unfoldable pub measured-point : List ℕ → List ℕ → ℕ → MeasuredPoint
+measured-point points rows i = record { point = point-of points i; rows = tabulate (count-in points i) (before-in points i) (row-of rows) }
 
 unfoldable pub road-of : List ℕ → ℕ → Road
-road-of b r = record { number = r; id = u64-at b 0; metres = f64-at b 8; source = u32-at b 16; target = u32-at b 20; frc = u8-at b 24; fow = u8-at b 25; access = eqb (u8-at b 26) 1 }
+road-of b r = record { number = r; id = u64-at b 0; «length_m» = f64-at b 8; source = u32-at b 16; target = u32-at b 20; frc = u8-at b 24; fow = u8-at b 25; access = eqb (u8-at b 26) 1 }
 
 -- the road numbers in a node's part of the lists
 unfoldable pub part : List ℕ → Counts → ℕ → List ℕ
-part s c n = tab (start-of s c (n + 1) - start-of s c n) (start-of s c n) (entry-of s c)
+part s c n = tabulate (start-of s c (n + 1) - start-of s c n) (start-of s c n) (entry-of s c)
 
 -- goal row k of a sheet of n nodes, from the bytes of the distances
 unfoldable pub goal-of : List ℕ → ℕ → ℕ → Goal
 goal-of b n k =
     let at = (n + n) * 8 + k * goal-width n in
-    record { node = u32-at b at; distances = tab n 0 (λ v. f64-at b (at + 8 + v * 8)) }
+    record { node = u32-at b at; distances = tabulate n 0 (λ v. f64-at b (at + 8 + v * 8)) }
 
 unfoldable pub sheet-of : List ℕ → Counts → Sheet
 sheet-of s c = record {
   kind = c .kind;
   nodes = c .n;
   settings = settings-of (settings-bytes s);
-  stops = tab (c .p) 0 (stop-of (points-bytes s c) (rows-bytes s c));
-  roads = tab (c .e) 0 (λ r. road-of (road-bytes s c r) r);
-  lists = tab (c .n) 0 (part s c);
-  from-first = tab (c .n) 0 (λ v. f64-at (distances-bytes s c) (v * 8));
-  from-last = tab (c .n) 0 (λ v. f64-at (distances-bytes s c) ((c .n + v) * 8));
-  goals = tab (c .g) 0 (goal-of (distances-bytes s c) (c .n));
+  points = tabulate (c .p) 0 (measured-point (points-bytes s c) (rows-bytes s c));
+  roads = tabulate (c .e) 0 (λ r. road-of (road-bytes s c r) r);
+  lists = tabulate (c .n) 0 (part s c);
+  from-first = tabulate (c .n) 0 (λ v. f64-at (distances-bytes s c) (v * 8));
+  from-last = tabulate (c .n) 0 (λ v. f64-at (distances-bytes s c) ((c .n + v) * 8));
+  goals = tabulate (c .g) 0 (goal-of (distances-bytes s c) (c .n));
 }
 
 -- the sheet that a well-formed byte sequence holds
@@ -111,14 +111,14 @@ parsed s = sheet-of s (counts-of s)
 -- ---- its roads
 
 abbrev pub no-road : Road
-no-road = record { number = 0; id = 0; metres = f0; source = 0; target = 0; frc = 0; fow = 0; access = false }
+no-road = record { number = 0; id = 0; «length_m» = f0; source = 0; target = 0; frc = 0; fow = 0; access = false }
 
 abbrev pub road-at : Sheet → ℕ → Road
 road-at t r = getD (t .roads) r no-road
 
 -- the numbers of all roads, rising
 abbrev pub numbers : Sheet → List ℕ
-numbers t = tab (length (t .roads)) 0 (λ r. r)
+numbers t = tabulate (length (t .roads)) 0 (λ r. r)
 
 -- the roads leaving a node, in list order
 abbrev pub list-at : Sheet → ℕ → List ℕ

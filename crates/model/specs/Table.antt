@@ -79,17 +79,17 @@ abbrev pub bearing : ℕ → Bool
 bearing = up-to most-bearing
 
 -- k fields alike, w bytes apart, the first at o
-unfoldable pub alike : (ℕ → Field) → ℕ → ℕ → ℕ → List Field
-alike f w o zero = []
-alike f w o (suc k) = f o ∷ alike f w (o + w) k
+unfoldable pub fields-alike : (ℕ → Field) → ℕ → ℕ → ℕ → List Field
+fields-alike f w o zero = []
+fields-alike f w o (suc k) = f o ∷ fields-alike f w (o + w) k
 
 -- k spare bytes from o, each a field of its own that must be zero
 abbrev pub zeros : ℕ → ℕ → List Field
-zeros o k = alike (u8 (λ v. eqb v 0)) 1 o k
+zeros o k = fields-alike (u8 (λ v. eqb v 0)) 1 o k
 
 -- k measures from o
 abbrev pub measures : ℕ → ℕ → List Field
-measures o k = alike (f64 measured) 8 o k
+measures o k = fields-alike (f64 measured) 8 o k
 
 -- ---- rows of tests
 

@@ -12,8 +12,8 @@ use Rattle.model.specs.declared.Road.{Road}
 use Rattle.model.specs.declared.AStarConstraints.{AStarConstraints}
 use Rattle.model.specs.declared.Limits.{Limits}
 use Rattle.model.specs.Numbers.{_⊕_, _⊖_, _⊗_, fmin, fmax, f0, f1, f500}
-use Rattle.model.specs.Lists.{keep, front}
-use Rattle.model.specs.Sheet.{Stop, Goal, Sheet, road-at, leaving-roads}
+use Rattle.model.specs.Lists.{filter, init}
+use Rattle.model.specs.Sheet.{MeasuredPoint, Goal, Sheet, road-at, leaving-roads}
 
 -- ---- what a leg accepts
 
@@ -36,9 +36,9 @@ raised tolerance limit = cond (eqb limit 255) 255 (min 7 (limit + tolerance))
 unfoldable pub limits-of : Settings → Point → Limits
 limits-of c p = record {
   dnp = p .dnp;
-  least = min-distance c (p .dnp);
-  greatest = max-valid-distance c (p .dnp);
-  reach = max-search-distance c (p .dnp);
+  «min_distance» = min-distance c (p .dnp);
+  «max_valid_distance» = max-valid-distance c (p .dnp);
+  «max_search_distance» = max-search-distance c (p .dnp);
   constraints = record {
     «max_frc» = raised (c .«frc_tolerance») (p .limit);
     «slip_road_cost_penalty» = c .«slip_road_cost_penalty»;
@@ -60,14 +60,14 @@ penalty k r = cond (is-slip r) (k .«slip_road_cost_penalty») (cond (r .access)
 -- ---- the view
 
 -- A row with the road that it names.
-pub record Spot : Type 0 where
+pub record Projection : Type 0 where
   pub row : Row
   pub road : Road
 
 -- A point with its rows.
-pub record Place : Type 0 where
+pub record ProjectedPoint : Type 0 where
   pub point : Point
-  pub spots : List Spot
+  pub projections : List Projection
 
 -- Leg i runs from point i to point i + 1. `leaving v`: the permitted roads leaving v, in list order.
 pub record Leg : Type 0 where
@@ -79,24 +79,24 @@ pub record View : Type 0 where
   pub kind : ℕ
   pub nodes : ℕ
   pub settings : Settings
-  pub places : List Place
+  pub points : List ProjectedPoint
   pub legs : List Leg
   pub to-goal : ℕ → ℕ → Float
 
-abbrev pub spot-of : Sheet → Row → Spot
-spot-of t w = record { row = w; road = road-at t (w .road) }
+abbrev pub projection-of : Sheet → Row → Projection
+projection-of t w = record { row = w; road = road-at t (w .road) }
 
-abbrev pub place-of : Sheet → Stop → Place
-place-of t p = record { point = p .point; spots = map (spot-of t) (p .rows) }
+abbrev pub projected-point : Sheet → MeasuredPoint → ProjectedPoint
+projected-point t p = record { point = p .point; projections = map (projection-of t) (p .rows) }
 
-abbrev pub leg-of : Sheet → Stop → Leg
+abbrev pub leg-of : Sheet → MeasuredPoint → Leg
 leg-of t p =
     let limits = limits-of (t .settings) (p .point) in
-    record { limits = limits; leaving = λ v. keep (permits (limits .constraints)) (leaving-roads t v) }
+    record { limits = limits; leaving = λ v. filter (permits (limits .constraints)) (leaving-roads t v) }
 
--- the stops that a leg starts from
-abbrev pub leg-stops : Sheet → List Stop
-leg-stops t = front (t .stops)
+-- the points that a leg starts from
+abbrev pub leg-starts : Sheet → List MeasuredPoint
+leg-starts t = init (t .points)
 
 unfoldable pub distances-to : List Goal → ℕ → List Float
 distances-to [] g = []
@@ -107,7 +107,7 @@ view t = record {
   kind = t .kind;
   nodes = t .nodes;
   settings = t .settings;
-  places = map (place-of t) (t .stops);
-  legs = map (leg-of t) (leg-stops t);
+  points = map (projected-point t) (t .points);
+  legs = map (leg-of t) (leg-starts t);
   to-goal = λ g v. getD (distances-to (t .goals) g) v f0;
 }

@@ -54,17 +54,17 @@ pub struct Point {
 // A measured row: the projection of a point onto a road.
 pub struct Row {
     pub road: usize,
-    pub distance: f64,
+    pub distance_m: f64,
     pub bearing: f64,
-    pub along: f64,
-    pub line: f64,
+    pub along_m: f64,
+    pub length_m: f64,
 }
 
 // A road with its number. Roads are compared by number, never by id.
 pub struct Road {
     pub number: usize,
     pub id: u64,
-    pub metres: f64,
+    pub length_m: f64,
     pub source: usize,
     pub target: usize,
     pub frc: u8,
@@ -82,9 +82,9 @@ pub struct AStarConstraints {
 // What a leg accepts: its DNP, the least and the greatest length, how far its searches go, and what binds its roads.
 pub struct Limits {
     pub dnp: f64,
-    pub least: f64,
-    pub greatest: f64,
-    pub reach: f64,
+    pub min_distance: f64,
+    pub max_valid_distance: f64,
+    pub max_search_distance: f64,
     pub constraints: AStarConstraints,
 }
 

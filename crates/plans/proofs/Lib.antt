@@ -1,3 +1,3 @@
-pub mod Asking
-pub mod Settling
+pub mod Planning
+pub mod AfterPair
 pub mod Trying

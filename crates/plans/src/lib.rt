@@ -1,18 +1,18 @@
-// One pair of candidates of a leg: what it asks for, and what comes of it.
+// One pair of candidates of a leg: its plan, and what comes of it.
 pub mod turns;
 
 use rules::Best;
 
-// What a pair asks for: nothing, its route on one road, or a search within these metres.
-pub enum Plan {
-    Nothing,
-    Alone(Best),
-    Across(f64),
+// What is done for a pair: it is skipped, it has a path on one edge, or it needs a search within these metres.
+pub enum PairPlan {
+    Skip,
+    SameEdge(Best),
+    Search(f64),
 }
 
-// Whether a search is asked for, and within how many metres.
-pub enum Ask {
-    No,
+// Whether a search is needed, and within how many metres.
+pub enum SearchNeed {
+    None,
     Within(f64),
 }
 
@@ -23,7 +23,7 @@ pub enum Phase {
 }
 
 // After a pair: how it goes on, and the best so far.
-pub struct State {
+pub struct PairTurn {
     pub phase: Phase,
     pub best: Best,
 }

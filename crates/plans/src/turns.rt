@@ -7,55 +7,55 @@ ghost use lib.ListN.{length};
 ghost use Rattle.model.specs.declared.Road.{Road};
 ghost use Rattle.model.specs.Numbers.{f0};
 ghost use Rattle.model.specs.Search.{found};
-ghost use Rattle.model.specs.Legs.{Pair, Seek, asked, over, improve, middle-of, goes-on, reached, settled};
+ghost use Rattle.model.specs.Legs.{Pair, MiddleSearch, pair-plan, scored-over, improve, middle-of, goes-on, after-search, after-pair};
 ghost use Rattle.rules.specs.Code.{pair-as, best-of};
 ghost use Rattle.search.specs.Answers.{told};
-ghost use Rattle.plans.specs.Turns.{asked-of, by-ask, Remembers, Comes};
-use crate::Ask;
+ghost use Rattle.plans.specs.Turns.{pair-plan-of, by-need, Remembers, TurnIs};
+use crate::PairPlan;
+use crate::PairTurn;
 use crate::Phase;
-use crate::Plan;
-use crate::State;
+use crate::SearchNeed;
 use candidates::candidate::Candidate;
 use model::Limits;
 use model::Road;
 use road_network::road_class;
 use rules::Best;
 use rules::Middle;
-use rules::Part;
-use rules::Route;
+use rules::PathResult;
+use rules::Terminal;
 use rules::lengths;
 use rules::routes;
-use search::Search;
+use search::SearchEnd;
 
-// What a pair asks for.
-pub fn plan(b: Limits, start: Candidate, first: Road, end: Candidate, last: Road) -> Plan
-    ensures { λ r. ⌜ asked-of r ≡ asked b (pair-as start first end last) ⌝ }
+// The plan of a pair.
+pub fn plan_pair(b: Limits, start: Candidate, first: Road, end: Candidate, last: Road) -> PairPlan
+    ensures { λ r. ⌜ pair-plan-of r ≡ pair-plan b (pair-as start first end last) ⌝ }
 {
     if !road_class::permits(b.constraints, first) {
-        return Plan::Nothing;
+        return PairPlan::Skip;
     }
     if !road_class::permits(b.constraints, last) {
-        return Plan::Nothing;
+        return PairPlan::Skip;
     }
     if first.number == last.number {
-        let way = routes::on_one_road(b, start, first, end, last);
-        return Plan::Alone(way);
+        let way = routes::same_edge_scored(b, start, first, end, last);
+        return PairPlan::SameEdge(way);
     }
     let bound = lengths::middle_max(b, start, first, end, last);
     if bound <= 0.0 {
-        return Plan::Nothing;
+        return PairPlan::Skip;
     }
-    Plan::Across(bound)
+    PairPlan::Search(bound)
 }
 
-// The search that a plan asks for.
-pub fn ask(p: Plan) -> Ask
-    ensures { λ r. ⌜ ((seek : Seek) (q : Pair) → by-ask (seek (q .start .road .target) (q .end .road .source)) r ≡ middle-of seek q (asked-of p)) ⌝ }
+// The search that a plan needs.
+pub fn search_need(p: PairPlan) -> SearchNeed
+    ensures { λ r. ⌜ ((search : MiddleSearch) (q : Pair) → by-need (search (q .start .road .target) (q .end .road .source)) r ≡ middle-of search q (pair-plan-of p)) ⌝ }
 {
     match p {
-        Plan::Nothing => Ask::No,
-        Plan::Alone(_) => Ask::No,
-        Plan::Across(bound) => Ask::Within(bound),
+        PairPlan::Skip => SearchNeed::None,
+        PairPlan::SameEdge(_) => SearchNeed::None,
+        PairPlan::Search(bound) => SearchNeed::Within(bound),
     }
 }
 
@@ -66,8 +66,8 @@ fn if_kept(kept: bool, offset: f64) -> f64
     if kept { offset } else { 0.0 }
 }
 
-// The route over a way of n roads with this cost, as a search within the bound finds it, if its length fits.
-fn route_over(
+// The path over a way of n roads with this cost, as a search within the bound finds it, if its length fits.
+fn scored_over(
     b: Limits,
     start: Candidate,
     first: Road,
@@ -77,12 +77,12 @@ fn route_over(
     cost: f64,
     n: usize,
 ) -> Best
-    ensures { λ r. ⌜ (r .route .middle ≡ record { start = first .target; goal = last .source; bound = bound; count = n }) × ((seek : Seek) (way : List Road) → seek (first .target) (last .source) bound ≡ found cost way → length way ≡ n → best-of seek r ≡ over b (pair-as start first end last) cost way) ⌝ }
+    ensures { λ r. ⌜ (r .route .middle ≡ record { start = first .target; goal = last .source; bound = bound; count = n }) × ((search : MiddleSearch) (way : List Road) → search (first .target) (last .source) bound ≡ found cost way → length way ≡ n → best-of search r ≡ scored-over b (pair-as start first end last) cost way) ⌝ }
 {
     let start_part = lengths::end_offset(start, first);
     let end_part = lengths::start_offset(end, last);
-    let total = lengths::length_over(start, first, end, last, cost);
-    let found = lengths::fits_over(b, total);
+    let total = lengths::path_cost(start, first, end, last, cost);
+    let found = lengths::fits_path(b, total);
     let score = lengths::score_of(b, start, first, end, last, total);
     let first_stays = lengths::stays(start_part, total);
     let last_stays = lengths::stays(end_part, total);
@@ -91,14 +91,14 @@ fn route_over(
     Best {
         found,
         score,
-        route: Route {
-            total,
-            start_offset,
-            end_offset,
-            head: Part {
+        path: PathResult {
+            total_length: total,
+            start_offset_m: start_offset,
+            end_offset_m: end_offset,
+            head: Terminal {
                 kept: first_stays,
                 road: first,
-                metres: start_part,
+                coverage_m: start_part,
             },
             middle: Middle {
                 start: first.target,
@@ -106,33 +106,33 @@ fn route_over(
                 bound,
                 count: n,
             },
-            tail: Part {
+            tail: Terminal {
                 kept: last_stays,
                 road: last,
-                metres: end_part,
+                coverage_m: end_part,
             },
         },
     }
 }
 
-// The better of the best so far and a route.
-fn take_better(best: Best, next: Best) -> State
-    ensures { λ r. ⌜ ((seek : Seek) (nodes : ℕ) → Remembers seek nodes (next .route .middle) → Comes best r seek nodes (goes-on (improve (best-of seek best) (best-of seek next)))) ⌝ }
+// The better of the best so far and a path.
+fn take_better(best: Best, next: Best) -> PairTurn
+    ensures { λ r. ⌜ ((search : MiddleSearch) (nodes : ℕ) → Remembers search nodes (next .route .middle) → TurnIs best r search nodes (goes-on (improve (best-of search best) (best-of search next)))) ⌝ }
 {
     if routes::improves(best, next) {
-        return State {
+        return PairTurn {
             phase: Phase::On,
             best: next,
         };
     }
-    State {
+    PairTurn {
         phase: Phase::On,
         best,
     }
 }
 
 // What a search leaves of the best so far, by what it found between the two roads.
-fn reach(
+fn after_search(
     b: Limits,
     start: Candidate,
     first: Road,
@@ -140,21 +140,21 @@ fn reach(
     last: Road,
     best: Best,
     bound: f64,
-    m: Search,
-) -> State
-    ensures { λ r. ⌜ ((seek : Seek) (nodes : ℕ) → first .target < nodes → last .source < nodes → m ≡ told (seek (first .target) (last .source) bound)
-        → Comes best r seek nodes (reached b (pair-as start first end last) (best-of seek best) (seek (first .target) (last .source) bound))) ⌝ }
+    m: SearchEnd,
+) -> PairTurn
+    ensures { λ r. ⌜ ((search : MiddleSearch) (nodes : ℕ) → first .target < nodes → last .source < nodes → m ≡ told (search (first .target) (last .source) bound)
+        → TurnIs best r search nodes (after-search b (pair-as start first end last) (best-of search best) (search (first .target) (last .source) bound))) ⌝ }
 {
     match m {
-        Search::Found(cost, n) => {
-            let next = route_over(b, start, first, end, last, bound, cost, n);
+        SearchEnd::Found(cost, n) => {
+            let next = scored_over(b, start, first, end, last, bound, cost, n);
             take_better(best, next)
         }
-        Search::Nothing => State {
+        SearchEnd::Nothing => PairTurn {
             phase: Phase::On,
             best,
         },
-        Search::Full => State {
+        SearchEnd::Full => PairTurn {
             phase: Phase::Full,
             best,
         },
@@ -162,28 +162,28 @@ fn reach(
 }
 
 // What a pair leaves of the best so far, by its plan and by what lies between its roads.
-pub fn settle(
+pub fn finish_pair(
     b: Limits,
     start: Candidate,
     first: Road,
     end: Candidate,
     last: Road,
     best: Best,
-    p: Plan,
-    m: Search,
-) -> State
-    ensures { λ r. ⌜ ((seek : Seek) (nodes : ℕ) → first .target < nodes → last .source < nodes → m ≡ told (middle-of seek (pair-as start first end last) (asked-of p))
-        → Comes best r seek nodes (settled b (pair-as start first end last) (best-of seek best) (asked-of p) (middle-of seek (pair-as start first end last) (asked-of p)))) ⌝ }
+    p: PairPlan,
+    m: SearchEnd,
+) -> PairTurn
+    ensures { λ r. ⌜ ((search : MiddleSearch) (nodes : ℕ) → first .target < nodes → last .source < nodes → m ≡ told (middle-of search (pair-as start first end last) (pair-plan-of p))
+        → TurnIs best r search nodes (after-pair b (pair-as start first end last) (best-of search best) (pair-plan-of p) (middle-of search (pair-as start first end last) (pair-plan-of p)))) ⌝ }
 {
     match p {
-        Plan::Nothing => State {
+        PairPlan::Skip => PairTurn {
             phase: Phase::On,
             best,
         },
-        Plan::Alone(way) => {
+        PairPlan::SameEdge(way) => {
             let next = routes::without_middle(way);
             take_better(best, next)
         }
-        Plan::Across(bound) => reach(b, start, first, end, last, best, bound, m),
+        PairPlan::Search(bound) => after_search(b, start, first, end, last, best, bound, m),
     }
 }

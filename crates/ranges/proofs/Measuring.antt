@@ -11,7 +11,7 @@ use borrow.Author.Tests.{lt-ltb, le-ltb, ltb-true, ltb-false, le-leb, lt-leb, le
 use Rattle.model.specs.declared.Verdict.{Verdict}
 use Rattle.model.specs.declared.Verdict.the-variants.{Good}
 use Rattle.model.specs.Bytes.{u64-at}
-use Rattle.model.specs.Table.{need, _then_, check-then, records, alike, measures, measured, most-f64, every}
+use Rattle.model.specs.Table.{need, _then_, check-then, records, fields-alike, measures, measured, most-f64, every}
 use Rattle.model.specs.Judge.{distance-table}
 use Rattle.model.proofs.Turns.{every-good, every-bad, every-none}
 use Rattle.model.proofs.Listed.{every-at}
@@ -95,7 +95,7 @@ all-below n room all v w hn hv e h =
 
 module _ (s : List ℕ) (at : ℕ) (v : Verdict) where
   measures-all : (k o : ℕ) → ((i : ℕ) → i < k → measured (u64-at s (at + (o + i * 8))) ≡ true) → v ≡ check-then s at (measures o k) v
-  unfolding alike check-then need
+  unfolding fields-alike check-then need
   measures-all zero o h = refl
   measures-all (suc k) o h =
       let here : o + 0 * 8 ≡ o = omega arith in
@@ -114,7 +114,7 @@ module _ (s : List ℕ) (at : ℕ) (v : Verdict) where
 
 module _ (s : List ℕ) where
   shifted : (v : Verdict) (k a o b p : ℕ) → a + o ≡ b + p → check-then s a (measures o k) v ≡ check-then s b (measures p k) v
-  unfolding alike check-then
+  unfolding fields-alike check-then
   shifted v zero a o b p e = refl
   shifted v (suc k) a o b p e = rw (e, shifted v k a (o + 8) b (p + 8) (omega arith))
 
@@ -124,7 +124,7 @@ module _ (s : List ℕ) where
   need-then false a v = refl
 
   pub distances-are : (k at : ℕ) → check-then s at (measures 0 k) Good ≡ records s 8 distance-table k at
-  unfolding alike check-then records distance-table
+  unfolding fields-alike check-then records distance-table
   distances-are zero at = refl
   distances-are (suc k) at =
       ap (need (measured (u64-at s (at + 0))) (at + 0)) (shifted Good k at 8 (at + 8) 0 (omega arith) ∙ distances-are k (at + 8))

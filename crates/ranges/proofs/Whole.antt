@@ -8,7 +8,7 @@ use lib.Dec.{T}
 use borrow.Author.Tests.{le-leb, lt-ltb, eq-eqb}
 use Rattle.model.specs.declared.Verdict.the-variants.{Good}
 use Rattle.model.specs.Bytes.{u8-at, u16-at, u32-at, u64-at}
-use Rattle.model.specs.Table.{need, check, check-then, alike, most-f64, most-bearing}
+use Rattle.model.specs.Table.{need, check, check-then, fields-alike, most-f64, most-bearing}
 use Rattle.model.specs.Judge.{road-table, number-table, row-table}
 
 -- of a record that is not good as a whole nothing is claimed
@@ -33,7 +33,7 @@ flag-and-zeros s at l =
 
 module _ (s : List ℕ) (at : ℕ) where
   pub road-whole : (n : ℕ) → u64-at s (at + 8) ≤ most-f64 → u32-at s (at + 16) < n → u32-at s (at + 20) < n → u64-at s (at + 24) < 0x2_0000 → u8-at s (at + 24) ≤ 7 → u8-at s (at + 25) ≤ 7 → Good ≡ check s at (road-table n)
-  unfolding road-table check-then alike need
+  unfolding road-table check-then fields-alike need
   road-whole n metres source target rest frc fow =
       let f = flag-and-zeros s (at + 24) rest in
       let a : at + 24 + 2 ≡ at + 26 = omega arith in
@@ -54,7 +54,7 @@ module _ (s : List ℕ) (at : ℕ) where
       rw (first, lt-ltb _ _ h)
 
   pub row-whole : (n : ℕ) → u32-at s at < n → u32-at s (at + 4) ≡ 0 → u64-at s (at + 8) ≤ most-f64 → u64-at s (at + 16) ≤ most-bearing → u64-at s (at + 24) ≤ most-f64 → u64-at s (at + 32) ≤ most-f64 → Good ≡ check s at (row-table n)
-  unfolding row-table check-then alike need
+  unfolding row-table check-then fields-alike need
   row-whole n road spare distance turn along line =
       let first : at + 0 ≡ at = omega arith in
       let z = spare-four s (at + 4) spare in

@@ -11,7 +11,7 @@ use lib.Seq.{drop-cons}
 use lib.Ieee.{Float}
 use Rattle.model.specs.declared.Counts.{Counts}
 use Rattle.model.specs.Candidates.{Candidate}
-use Rattle.model.specs.Lists.{In, maybe, tab}
+use Rattle.model.specs.Lists.{In, maybe, tabulate}
 use Rattle.model.specs.Layout.{point-along-line}
 use Rattle.model.specs.Judge.{WellFormed, counts-good}
 use Rattle.model.specs.Sheet.{Sheet, sheet-of}
@@ -20,17 +20,17 @@ use Rattle.model.specs.Search.{bounded-astar}
 use Rattle.model.specs.Decode.{first-empty, decode-legs, decode-points, outcome}
 use Rattle.model.proofs.Judging.{all-of-at}
 use Rattle.model.proofs.Members.{here, in-getD, length-tab, getD-table}
-use Rattle.model.proofs.Parsed.{node-count, stop-count}
+use Rattle.model.proofs.Parsed.{node-count, point-count}
 use Rattle.bounds.proofs.FormedProof.{well-formed-formed}
 use Rattle.bounds.proofs.Sources.{found-on-roads}
 use Rattle.candidates.specs.declared.closest.Points.{Points}
 use Rattle.candidates.specs.declared.closest.Points.the-variants.{Fine, NoCandidate}
-use Rattle.candidates.specs.Found.{no-stop, stop-at, candidates-at}
+use Rattle.candidates.specs.Found.{no-point, point-at, candidates-at}
 use Rattle.candidates.specs.Points.{candidates-of, judge-points, points-of, after-points}
 use Rattle.candidates.proofs.Rules.{candidates-are, decode-sheet-after}
 use Rattle.lines.specs.Legs.{legs-of}
-use Rattle.references.specs.declared.Ahead.the-variants as A
-use Rattle.references.specs.Reference.{outcome-with, Looks}
+use Rattle.references.specs.declared.Admission.the-variants as A
+use Rattle.references.specs.Reference.{outcome-with, AdmissionIs}
 
 abbrev Is-fine : Points → Type 0
 Is-fine Fine = Unit {0}
@@ -56,8 +56,8 @@ module _ (s : List ℕ) (c : Counts) (w : WellFormed s c) where
 
   -- ---- refusals 7, 8 and 9
 
-  pub other-kind : point-along-line < c .kind → Looks (sheet-of s c) c (A.Refused 7 (c .kind))
-  unfolding Looks outcome
+  pub other-kind : point-along-line < c .kind → AdmissionIs (sheet-of s c) c (A.Refused 7 (c .kind))
+  unfolding AdmissionIs outcome
   other-kind h slots = rw (kind-is, lt-ltb point-along-line (c .kind) h)
 
   module _ (known : c .kind ≤ point-along-line) where
@@ -66,15 +66,15 @@ module _ (s : List ℕ) (c : Counts) (w : WellFormed s c) where
     to-points slots = rw (kind-is, le-ltb point-along-line (c .kind) known)
 
     none-there : c .p ≡ 0 → candidates-of t ≡ []
-    unfolding tab
+    unfolding tabulate
     none-there e = candidates-are s c ∙ rw e
 
-    pub no-points : c .p ≡ 0 → Looks (sheet-of s c) c (A.Refused 8 0)
-    unfolding Looks decode-points
+    pub no-points : c .p ≡ 0 → AdmissionIs (sheet-of s c) c (A.Refused 8 0)
+    unfolding AdmissionIs decode-points
     no-points e slots = to-points slots ∙ rw (none-there e)
 
-    pub no-candidate : (i : ℕ) → NoCandidate i ≡ points-of (sheet-of s c) → Looks (sheet-of s c) c (A.Refused 9 i)
-    unfolding Looks after-points
+    pub no-candidate : (i : ℕ) → NoCandidate i ≡ points-of (sheet-of s c) → AdmissionIs (sheet-of s c) c (A.Refused 9 i)
+    unfolding AdmissionIs after-points
     no-candidate i e slots = to-points slots ∙ decode-sheet-after t (bounded-astar slots) ∙ rw (sym e)
 
     -- ---- the legs
@@ -96,13 +96,13 @@ module _ (s : List ℕ) (c : Counts) (w : WellFormed s c) where
       some-node =
           let wf = well-formed-formed s c w in
           let x = some-candidate (t .settings .«max_candidate_distance_m») (candidates-at t 0) (drop 1 (candidates-of t)) (fine ∙ ap (judge-points (t .settings .«max_candidate_distance_m»)) first-point) in
-          let stop = in-getD (t .stops) 0 no-stop (rw (stop-count s c) some) in
-          let road = found-on-roads wf (stop-at t 0) stop (x .0) (x .1) in
+          let stop = in-getD (t .points) 0 no-point (rw (point-count s c) some) in
+          let road = found-on-roads wf (point-at t 0) stop (x .0) (x .1) in
           omega (arith, wf .roads (x .0 .road) road .target, node-count s c)
 
       -- the legs of a line are summed
-      pub legs-come : Looks (sheet-of s c) c (A.Legs (not (eqb (c .kind) point-along-line)))
-      unfolding Looks decode-legs
+      pub legs-come : AdmissionIs (sheet-of s c) c (A.Legs (not (eqb (c .kind) point-along-line)))
+      unfolding AdmissionIs decode-legs
       legs-come = go (eqb (c .kind) point-along-line) refl
         where
           go : (b : Bool) → eqb (c .kind) point-along-line ≡ b → (0 < c .p) × (0 < c .n) × (not b ≡ false → c .p ≡ 2) × ((slots : ℕ) → outcome-with t slots ≡ legs-of (not b) t slots)

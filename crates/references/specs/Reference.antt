@@ -9,14 +9,14 @@ use Rattle.model.specs.Layout.{most-points}
 use Rattle.model.specs.Sheet.{Sheet}
 use Rattle.model.specs.View.{view}
 use Rattle.model.specs.Search.{bounded-astar}
-use Rattle.model.specs.Decode.{Course, refused, with-primary, outcome}
+use Rattle.model.specs.Decode.{FullPath, refused, with-primary, outcome}
 use Rattle.model.specs.Decode as decode
-use Rattle.lines.specs.Legs.{Stands}
+use Rattle.lines.specs.Legs.{PathStored}
 use Rattle.lines.specs.Legs as legs
-use Rattle.lines.specs.declared.End.{End}
-use Rattle.lines.specs.declared.End.the-variants as D
-use Rattle.references.specs.declared.Ahead.{Ahead}
-use Rattle.references.specs.declared.Ahead.the-variants as A
+use Rattle.lines.specs.declared.LegsEnd.{LegsEnd}
+use Rattle.lines.specs.declared.LegsEnd.the-variants as D
+use Rattle.references.specs.declared.Admission.{Admission}
+use Rattle.references.specs.declared.Admission.the-variants as A
 use Rattle.references.specs.declared.Outcome.{Outcome}
 use Rattle.references.specs.declared.Outcome.the-variants as O
 
@@ -27,19 +27,19 @@ abbrev pub outcome-with : Sheet → ℕ → decode.Outcome
 outcome-with t slots = outcome (view t) (bounded-astar slots)
 
 -- refused, or the legs come, between points with candidates
-unfoldable pub Looks : Sheet → Counts → Ahead → Type 0
-Looks t c (A.Refused n a) = (slots : ℕ) → outcome-with t slots ≡ refused n a 0
-Looks t c (A.Legs summed) = (0 < c .p) × (0 < c .n) × (summed ≡ false → c .p ≡ 2) × ((slots : ℕ) → outcome-with t slots ≡ legs.legs-of summed t slots)
+unfoldable pub AdmissionIs : Sheet → Counts → Admission → Type 0
+AdmissionIs t c (A.Refused n a) = (slots : ℕ) → outcome-with t slots ≡ refused n a 0
+AdmissionIs t c (A.Legs summed) = (0 < c .p) × (0 < c .n) × (summed ≡ false → c .p ≡ 2) × ((slots : ℕ) → outcome-with t slots ≡ legs.legs-of summed t slots)
 
 -- ---- after the legs
 
 -- the number of a leg without a path is small
-unfoldable pub Placed : End → Type 0
-Placed D.Done = Unit {0}
-Placed (D.NoPath i) = i < most-points
-Placed (D.HeapFull i) = Unit {0}
+unfoldable pub LegInRange : LegsEnd → Type 0
+LegInRange D.Done = Unit {0}
+LegInRange (D.NoPath i) = i < most-points
+LegInRange (D.HeapFull i) = Unit {0}
 
--- how a reference ends that comes to the outcome o: refused, or with a course k in the lent areas, whose primary road decides
-unfoldable pub Comes : Sheet → Counts → decode.Outcome → List ℕ → List ℕ → List Float → Outcome → Type 0
-Comes t c o ids covered coverage (O.Refused n a b) = o ≡ refused n a b
-Comes t c o ids covered coverage (O.Legs x) = (0 < c .p) × ((k : Course) × (o ≡ with-primary (c .p) k) × Stands t (c .e) (c .p * (c .n + 1)) k ids covered coverage x)
+-- how a reference ends that comes to the outcome o: refused, or with a path k in the lent areas, whose primary road decides
+unfoldable pub ReferenceOutcome : Sheet → Counts → decode.Outcome → List ℕ → List ℕ → List Float → Outcome → Type 0
+ReferenceOutcome t c o ids covered coverage (O.Refused n a b) = o ≡ refused n a b
+ReferenceOutcome t c o ids covered coverage (O.Legs x) = (0 < c .p) × ((k : FullPath) × (o ≡ with-primary (c .p) k) × PathStored t (c .e) (c .p * (c .n + 1)) k ids covered coverage x)

@@ -10,7 +10,7 @@ use lib.Signed.{mag, nonNeg, ltZ}
 use mir.Syntax.{w8}
 use mir.Val.{toZ, ofZ, SFits, Fits}
 use borrow.Author.Needs.{sfits-of}
-use Rattle.model.specs.Lists.{all, tab}
+use Rattle.model.specs.Lists.{all, tabulate}
 use Rattle.model.specs.Candidates.{class-difference}
 use Rattle.road_network.proofs.Pairs.{at-pair}
 
@@ -48,15 +48,15 @@ arm a b = right a b (cond (ltZ (held a b) (pos 0)) (turned a b) (held a b))
 
 module _ (a b : ℕ) (h : a ≤ 7) (g : b ≤ 7) where
   pub difference-fits : SFits w8 (difference a b)
-  unfolding all tab
+  unfolding all tabulate
   difference-fits = sfits-of (ltb→lt (mag (difference a b)) 128 (at-pair 8 8 (λ a b. ltb (mag (difference a b)) 128) tt a b (omega arith) (omega arith)))
 
   pub turned-fits : SFits w8 (pos 0 -ℤ held a b)
-  unfolding all tab
+  unfolding all tabulate
   turned-fits = sfits-of (ltb→lt (mag (pos 0 -ℤ held a b)) 128 (at-pair 8 8 (λ a b. ltb (mag (pos 0 -ℤ held a b)) 128) tt a b (omega arith) (omega arith)))
 
   taken : T (arm a b)
-  unfolding arm right all tab
+  unfolding arm right all tabulate
   taken = at-pair 8 8 arm tt a b (omega arith) (omega arith)
 
   pub below-zero : ltZ (held a b) (pos 0) ≡ true → Right a b (turned a b)

@@ -10,7 +10,7 @@ use lib.Dec.{ltb}
 use lib.ListN.{length}
 use borrow.Author.Tests.{eq-eqb, ltb-true}
 use Rattle.model.specs.declared.Counts.{Counts}
-use Rattle.model.specs.Lists.{In, tab, keep}
+use Rattle.model.specs.Lists.{In, tabulate, filter}
 use Rattle.model.specs.Judge.{WellFormed, start-of, entry-of}
 use Rattle.model.specs.Sheet.{Sheet, sheet-of, road-at, list-at, numbers}
 use Rattle.model.specs.Ends.{is-valid-node}
@@ -26,17 +26,17 @@ use Rattle.sheet.proofs.Parts.{part-is}
 use Rattle.road_network.specs.Graph.{is-fork}
 
 -- a run whose places hold different numbers
-distinct-tab : (f : ℕ → ℕ) (n i : ℕ) → ((j k : ℕ) → i ≤ j → j < k → k < i + n → f k ≢ f j) → Distinct (tab n i f)
-unfolding tab
+distinct-tab : (f : ℕ → ℕ) (n i : ℕ) → ((j k : ℕ) → i ≤ j → j < k → k < i + n → f k ≢ f j) → Distinct (tabulate n i f)
+unfolding tabulate
 distinct-tab f zero i h = tt
 distinct-tab f (suc n) i h =
     (λ y m e. let k = in-tab n (i + 1) f m in h i (i + 1 + k .0) (omega arith) (omega arith) (omega (arith, k .1)) (k .2 ∙ e), distinct-tab f n (i + 1) (λ j k a b l. h j k (omega arith) b (omega arith)))
 
 -- the numbers of a list without repetition are those of roads out, at most two where there is no choice
 outs-most : (t : Sheet) → Formed t → (v : ℕ) → Distinct (list-at t v) → is-valid-node t v ≡ false → length (list-at t v) ≤ 2
-outs-most t f v d e = omega (arith, outs-few t v e, pigeon (list-at t v) (keep (leaves t v) (numbers t)) d out)
+outs-most t f v d e = omega (arith, outs-few t v e, pigeon (list-at t v) (filter (leaves t v) (numbers t)) d out)
   where
-    out : (x : ℕ) → In x (list-at t v) → In x (keep (leaves t v) (numbers t))
+    out : (x : ℕ) → In x (list-at t v) → In x (filter (leaves t v) (numbers t))
     out x m =
         let l = f .lists v x m in
         keep-in (leaves t v) (numbers t) (Memᴰ·cast (sym (zero-add x)) (tab-in (length (t .roads)) 0 (λ r. r) x (l .0))) (eq-eqb (road-at t x .source) v (l .1))

@@ -9,20 +9,20 @@ use lib.ListN.{length}
 use borrow.Author.Tests.{eqb-true, eqb-false}
 use Rattle.model.specs.declared.Neighbour.{Neighbour}
 use Rattle.model.specs.declared.Road.{Road}
-use Rattle.model.specs.Lists.{any, fold, tab}
+use Rattle.model.specs.Lists.{any, fold, tabulate}
 use Rattle.model.specs.Sheet.{Sheet, road-at}
 use Rattle.model.specs.Ends.{grown, note, meet-road, around, ins-of, outs-of, is-choice, passes-through, is-valid-node}
 use Rattle.model.proofs.Members.{or-l, or-r, here}
 use Rattle.bounds.proofs.Few.{note-self, through}
-use Rattle.road_network.specs.declared.graph.Near.{Near}
-use Rattle.road_network.specs.declared.graph.Near.the-variants.{Nobody, One, Two, Choice}
-use Rattle.road_network.specs.Graph.{settled, reads, roads-read}
-use Rattle.road_network.specs.Near.{is-second, fresh, meets, meets-road, has-choice, Few, is-through}
+use Rattle.road_network.specs.declared.graph.Neighbours.{Neighbours}
+use Rattle.road_network.specs.declared.graph.Neighbours.the-variants.{Nobody, One, Two, Choice}
+use Rattle.road_network.specs.Graph.{decided, reads, roads-read}
+use Rattle.road_network.specs.Neighbours.{is-second, new-neighbour, meet-node, meets-road, has-choice, Few, is-through}
 use Rattle.road_network.proofs.Runs.{run-step, run-end}
-use Rattle.road_network.proofs.Settling.{Plain, plain-no, fresh-plain, grown-plain, second-choice, Open, open-of, open-fold}
+use Rattle.road_network.proofs.Deciding.{Plain, plain-no, new-neighbour-plain, grown-plain, second-choice, Open, open-of, open-fold}
 
 -- the neighbours that the code keeps
-unfoldable pub listed : Near → List Neighbour
+unfoldable pub listed : Neighbours → List Neighbour
 listed Nobody = []
 listed (One a) = a ∷ []
 listed (Two a b) = a ∷ b ∷ []
@@ -30,13 +30,13 @@ listed Choice = []
 
 module _ (v : ℕ) where
   -- none of them is a choice
-  unfoldable pub Clean : Near → Type 0
+  unfoldable pub Clean : Neighbours → Type 0
   Clean Nobody = Unit
   Clean (One a) = Plain v a
   Clean (Two a b) = Plain v a × Plain v b
   Clean Choice = ⊥
 
-  pub few : (x : Near) → Clean x → Few x
+  pub few : (x : Neighbours) → Clean x → Few x
   unfolding Clean
   few Nobody h = tt
   few (One a) h = tt
@@ -44,7 +44,7 @@ module _ (v : ℕ) where
   few Choice h = tt
 
   -- x is what the code keeps of the neighbours xs
-  record Kept (xs : List Neighbour) (x : Near) : Type 0 where
+  record Kept (xs : List Neighbour) (x : Neighbours) : Type 0 where
     choice : has-choice x ≡ true → Open v xs → ⊥
     same : has-choice x ≡ false → (listed x ≡ xs) × Clean x
 
@@ -52,7 +52,7 @@ module _ (v : ℕ) where
   unfolding has-choice
   chosen h = record { choice = λ e. h; same = λ e. absurd (true≢false e) }
 
-  kept : (x : Near) → Clean x → Kept (listed x) x
+  kept : (x : Neighbours) → Clean x → Kept (listed x) x
   unfolding has-choice Clean
   kept Nobody h = record { choice = λ e. absurd (false≢true e); same = λ e. (refl, h) }
   kept (One a) h = record { choice = λ e. absurd (false≢true e); same = λ e. (refl, h) }
@@ -61,20 +61,20 @@ module _ (v : ℕ) where
 
   -- ---- one road more
 
-  kept-note : (x : Near) → Clean x → (u : ℕ) (inward : Bool) → (u ≡ v → ⊥) → Kept (note u inward (listed x)) (meets x u inward)
-  unfolding Clean listed note meets
-  kept-note Nobody h u inward q = kept (One (fresh u inward)) (fresh-plain v u inward q)
+  kept-note : (x : Neighbours) → Clean x → (u : ℕ) (inward : Bool) → (u ≡ v → ⊥) → Kept (note u inward (listed x)) (meet-node x u inward)
+  unfolding Clean listed note meet-node
+  kept-note Nobody h u inward q = kept (One (new-neighbour u inward)) (new-neighbour-plain v u inward q)
   kept-note (One a) h u inward q = go (eqb (a .node) u) (is-second inward a) refl
     where
       go : (is-a twice : Bool) → is-second inward a ≡ twice
-          → Kept (cond is-a (grown inward a ∷ []) (a ∷ fresh u inward ∷ [])) (cond is-a (cond twice Choice (One (grown inward a))) (Two a (fresh u inward)))
+          → Kept (cond is-a (grown inward a ∷ []) (a ∷ new-neighbour u inward ∷ [])) (cond is-a (cond twice Choice (One (grown inward a))) (Two a (new-neighbour u inward)))
       go true true e = chosen (λ o. second-choice v inward a e (o .plain _ here))
       go true false e = kept (One (grown inward a)) (grown-plain v inward a e h)
-      go false twice e = kept (Two a (fresh u inward)) (h, fresh-plain v u inward q)
+      go false twice e = kept (Two a (new-neighbour u inward)) (h, new-neighbour-plain v u inward q)
   kept-note (Two a b) h u inward q = go (eqb (a .node) u) (is-second inward a) (eqb (b .node) u) (is-second inward b) refl refl
     where
       go : (is-a a-twice is-b b-twice : Bool) → is-second inward a ≡ a-twice → is-second inward b ≡ b-twice
-          → Kept (cond is-a (grown inward a ∷ b ∷ []) (a ∷ cond is-b (grown inward b ∷ []) (b ∷ fresh u inward ∷ [])))
+          → Kept (cond is-a (grown inward a ∷ b ∷ []) (a ∷ cond is-b (grown inward b ∷ []) (b ∷ new-neighbour u inward ∷ [])))
           (cond is-a (cond a-twice Choice (Two (grown inward a) b)) (cond is-b (cond b-twice Choice (Two a (grown inward b))) Choice))
       go true true is-b b-twice e f = chosen (λ o. second-choice v inward a e (o .plain _ here))
       go true false is-b b-twice e f = kept (Two (grown inward a) b) (grown-plain v inward a e (h .0), h .1)
@@ -87,41 +87,41 @@ module _ (v : ℕ) where
   self-loop : (u : ℕ) (xs : List Neighbour) → u ≡ v → Kept (note u true xs) Choice
   self-loop u xs e = chosen (λ o. let own = note-self v u true xs e in o .plain (own .0) (own .1) .other (own .2))
 
-  kept-road : (x : Near) → Clean x → (r : Road) → Kept (meet-road v (listed x) r) (meets-road v x (r .source) (r .target))
+  kept-road : (x : Neighbours) → Clean x → (r : Road) → Kept (meet-road v (listed x) r) (meets-road v x (r .source) (r .target))
   unfolding meet-road meets-road
   kept-road x h r = go (eqb (r .target) v) (eqb (r .source) v) refl refl
     where
       go : (into out : Bool) → eqb (r .target) v ≡ into → eqb (r .source) v ≡ out
           → Kept (cond into (note (r .source) true (listed x)) (cond out (note (r .target) false (listed x)) (listed x)))
-          (cond into (cond out Choice (meets x (r .source) true)) (cond out (meets x (r .target) false) x))
+          (cond into (cond out Choice (meet-node x (r .source) true)) (cond out (meet-node x (r .target) false) x))
       go true true e f = self-loop (r .source) (listed x) (eqb-true _ _ f)
       go true false e f = kept-note x h (r .source) true (eqb-false _ _ f)
       go false true e f = kept-note x h (r .target) false (eqb-false _ _ e)
       go false false e f = kept x h
 
-  -- ---- what is settled, and what is left at the end
+  -- ---- what is decided, and what is left at the end
 
-  -- what is not open is settled, and what the code keeps is open
-  open-settled : (xs : List Neighbour) → (Open v xs → ⊥) → settled v xs ≡ true
-  unfolding settled
-  open-settled xs h = go (settled v xs) refl
+  -- what is not open is decided, and what the code keeps is open
+  open-decided : (xs : List Neighbour) → (Open v xs → ⊥) → decided v xs ≡ true
+  unfolding decided
+  open-decided xs h = go (decided v xs) refl
     where
-      go : (b : Bool) → settled v xs ≡ b → settled v xs ≡ true
+      go : (b : Bool) → decided v xs ≡ b → decided v xs ≡ true
       go true e = e
       go false e =
           let long = ltb 2 (length xs) in
           let choice = any (is-choice v) xs in
           absurd (h (open-of v xs (nltb→le 2 (length xs) (not-T long (λ t. subst T e (or-l long choice t)))) (λ t. subst T e (or-r long choice t))))
 
-  clean-open : (x : Near) → Clean x → settled v (listed x) ≡ false
-  unfolding settled listed Clean any
+  clean-open : (x : Neighbours) → Clean x → decided v (listed x) ≡ false
+  unfolding decided listed Clean any
   clean-open Nobody h = refl
   clean-open (One a) h = rw (plain-no v h)
   clean-open (Two a b) h = rw (plain-no v (h .0), plain-no v (h .1))
   clean-open Choice h = absurd h
 
   -- the test at the end is the definition's
-  through-is : (x : Near) → Clean x → is-through x ≡ passes-through v (listed x)
+  through-is : (x : Neighbours) → Clean x → is-through x ≡ passes-through v (listed x)
   unfolding is-through passes-through listed Clean ins-of outs-of any
   through-is Nobody h = refl
   through-is (One a) h = refl
@@ -139,17 +139,17 @@ module _ (t : Sheet) (v e : ℕ) where
   next i xs = meet-road v xs (road-at t i)
 
   abbrev after : ℕ → List Neighbour → List Neighbour
-  after i xs = fold (λ ys r. meet-road v ys (road-at t r)) xs (tab (e - i) i (λ r. r))
+  after i xs = fold (λ ys r. meet-road v ys (road-at t r)) xs (tabulate (e - i) i (λ r. r))
 
   -- the roads read from i on
   abbrev left : ℕ → List Neighbour → ℕ
-  left i xs = reads t v xs (tab (e - i) i (λ r. r))
+  left i xs = reads t v xs (tabulate (e - i) i (λ r. r))
 
   after-road : (i : ℕ) (xs : List Neighbour) → i < e → after i xs ≡ after (i + 1) (next i xs)
   unfolding fold
   after-road i xs h = ap (fold (λ ys r. meet-road v ys (road-at t r)) xs) (run-step (λ r. r) h)
 
-  left-road : (i : ℕ) (xs : List Neighbour) → i < e → left i xs ≡ cond (settled v (next i xs)) 1 (suc (left (i + 1) (next i xs)))
+  left-road : (i : ℕ) (xs : List Neighbour) → i < e → left i xs ≡ cond (decided v (next i xs)) 1 (suc (left (i + 1) (next i xs)))
   unfolding reads
   left-road i xs h = ap (reads t v xs) (run-step (λ r. r) h)
 
@@ -158,7 +158,7 @@ module _ (t : Sheet) (v e : ℕ) where
   open-around e = let k = through t v e in open-of v (around t v) (omega (arith, k .two)) (T-not (any (is-choice v) (around t v)) (k .plain))
 
   -- After i roads the code holds x.
-  pub record Seen (i : ℕ) (x : Near) : Type 0 where
+  pub record Seen (i : ℕ) (x : Neighbours) : Type 0 where
     pub clean : Clean v x
     pub count : i + left i (listed x) ≡ roads-read t v
     pub same : after i (listed x) ≡ around t v
@@ -175,11 +175,11 @@ module _ {t : Sheet} {v e : ℕ} where
         same = rw all;
       }
 
-  module _ {i source target : ℕ} {x y : Near} (s : Seen t v e i x) (h : i < e) (p : source ≡ road-at t i .source) (q : target ≡ road-at t i .target) (k : y ≡ meets-road v x source target) where
+  module _ {i source target : ℕ} {x y : Neighbours} (s : Seen t v e i x) (h : i < e) (p : source ≡ road-at t i .source) (q : target ≡ road-at t i .target) (k : y ≡ meets-road v x source target) where
     road-kept : Kept v (next t v e i (listed x)) y
     road-kept = subst (Kept v (next t v e i (listed x))) (sym (k ∙ rw (p, q))) (kept-road v x (s .clean) (road-at t i))
 
-    -- a road that is a choice settles it
+    -- a road that is a choice decides it
     module _ (w : has-choice y ≡ true) where
       pub seen-choice : true ≡ is-valid-node t v
       seen-choice = go (is-valid-node t v) refl
@@ -190,14 +190,14 @@ module _ {t : Sheet} {v e : ℕ} where
 
       pub seen-read : i + 1 ≡ roads-read t v
       seen-read =
-          let one : left t v e i (listed x) ≡ 1 = left-road t v e i (listed x) h ∙ rw (open-settled v _ (road-kept .choice w)) in
+          let one : left t v e i (listed x) ≡ 1 = left-road t v e i (listed x) h ∙ rw (open-decided v _ (road-kept .choice w)) in
           omega (arith, one, s .count)
 
     -- after any other the walk goes on
     pub seen-step : has-choice y ≡ false → Seen t v e (i + 1) y
     seen-step w =
         let m = road-kept .same w in
-        let unsettled : settled v (next t v e i (listed x)) ≡ false = ap (settled v) (sym (m .0)) ∙ clean-open v y (m .1) in
+        let unsettled : decided v (next t v e i (listed x)) ≡ false = ap (decided v) (sym (m .0)) ∙ clean-open v y (m .1) in
         let more : left t v e i (listed x) ≡ suc (left t v e (i + 1) (next t v e i (listed x))) = left-road t v e i (listed x) h ∙ rw unsettled in
         record {
           clean = m .1;
@@ -206,7 +206,7 @@ module _ {t : Sheet} {v e : ℕ} where
         }
 
   -- after the last road
-  module _ {i : ℕ} {x : Near} (s : Seen t v e i x) (h : e ≤ i) where
+  module _ {i : ℕ} {x : Neighbours} (s : Seen t v e i x) (h : e ≤ i) where
     pub seen-end : {b : Bool} → b ≡ is-through x → not b ≡ is-valid-node t v
     unfolding is-valid-node fold
     seen-end k =

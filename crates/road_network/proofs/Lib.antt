@@ -5,7 +5,7 @@ pub mod Forms
 pub mod Signs
 pub mod DrawingProof
 pub mod Runs
-pub mod Settling
+pub mod Deciding
 pub mod Kept
 pub mod Marks
 pub mod Forks

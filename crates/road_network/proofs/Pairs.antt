@@ -4,11 +4,11 @@ use mathlib.Core.Bool.{Bool}
 use Prim.Native.Nat.{ℕ, _<_}
 use native.Mathlib.Nat.{zero-add}
 use lib.Dec.{T}
-use Rattle.model.specs.Lists.{all, tab}
+use Rattle.model.specs.Lists.{all, tabulate}
 use Rattle.model.proofs.Members.{all-at, tab-in}
 
 abbrev pub below : ℕ → (ℕ → Bool) → Bool
-below n p = all p (tab n 0 (λ k. k))
+below n p = all p (tabulate n 0 (λ k. k))
 
 pub at-number : (n : ℕ) (p : ℕ → Bool) → T (below n p) → (k : ℕ) → k < n → T (p k)
 at-number n p t k h = subst (λ (j : ℕ). T (p j)) (zero-add k) (all-at p t (tab-in n 0 (λ k. k) k h))

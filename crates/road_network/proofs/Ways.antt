@@ -9,7 +9,7 @@ use lib.Dec.{eqb}
 use lib.ListN.{length}
 use borrow.Author.Tests.{eq-eqb, ne-eqb}
 use Rattle.model.specs.declared.Counts.{Counts}
-use Rattle.model.specs.Lists.{first, tab}
+use Rattle.model.specs.Lists.{find, tabulate}
 use Rattle.model.specs.Judge.{WellFormed, start-of, entry-of}
 use Rattle.model.specs.Sheet.{Sheet, sheet-of, road-at}
 use Rattle.model.specs.Ends.{is-valid-node, way-on, way-back, forced-continuation, forced-predecessor}
@@ -29,11 +29,11 @@ module _ (s : List ℕ) (c : Counts) (r : ℕ) where
 
   -- What is sought from place j on is the way on.
   abbrev pub Ahead : ℕ → ℕ → Type 0
-  Ahead end j = first ahead (tab (end - j) j (entry-of s c)) ≡ way-on t r
+  Ahead end j = find ahead (tabulate (end - j) j (entry-of s c)) ≡ way-on t r
 
   pub ahead-start : {v j end : ℕ} → v ≡ road-at t r .target → WellFormed s c → v < c .n → j ≡ start-of s c v → end ≡ start-of s c (v + 1) → Ahead end j
   unfolding way-on
-  ahead-start {v} p ok h from to = rw (from, to, sym p) (sym (ap (first ahead) (part-is s c ok v h)))
+  ahead-start {v} p ok h from to = rw (from, to, sym p) (sym (ap (find ahead) (part-is s c ok v h)))
 
   module _ {end j x w from : ℕ} (a : Ahead end j) (h : j < end) (q : x ≡ entry-of s c j) (u : w ≡ road-at t x .target) (f : from ≡ road-at t r .source) where
     pub ahead-way : (w ≡ from → ⊥) → way-on t r ≡ some x
@@ -57,11 +57,11 @@ module _ (s : List ℕ) (c : Counts) (r : ℕ) where
 
   -- What is sought from road x on is the way back.
   abbrev pub Behind : ℕ → Type 0
-  Behind x = first behind (tab (c .e - x) x (λ i. i)) ≡ way-back t r
+  Behind x = find behind (tabulate (c .e - x) x (λ i. i)) ≡ way-back t r
 
   pub behind-start : Behind 0
   unfolding way-back
-  behind-start = ap (λ (k : ℕ). first behind (tab k 0 (λ i. i))) {x = c .e - 0} {y = length (t .roads)} (omega (arith, road-count s c))
+  behind-start = ap (λ (k : ℕ). find behind (tabulate k 0 (λ i. i))) {x = c .e - 0} {y = length (t .roads)} (omega (arith, road-count s c))
 
   module _ {x w v : ℕ} (a : Behind x) (h : x < c .e) (q : w ≡ road-at t x .target) (f : v ≡ road-at t r .source) where
     pub behind-other : (w ≡ v → ⊥) → Behind (x + 1)

@@ -11,12 +11,12 @@ use Rattle.model.specs.Ends.{is-valid-node, forced-continuation, forced-predece
 use Rattle.model.specs.Marked.{defaults, one-way}
 use Rattle.road_network.specs.Graph.{roads-read}
 
-abbrev pub drawing : Sheet
-drawing = record {
+abbrev pub drawn-sheet : Sheet
+drawn-sheet = record {
   kind = 1;
   nodes = 3;
   settings = defaults;
-  stops = [];
+  points = [];
   roads = one-way 0 0 1 ∷ one-way 1 1 2 ∷ one-way 2 2 2 ∷ one-way 3 2 0 ∷ [];
   lists = (0 ∷ []) ∷ (1 ∷ []) ∷ (2 ∷ 3 ∷ []) ∷ [];
   from-first = [];
@@ -26,10 +26,10 @@ drawing = record {
 
 pub record Drawn : Type 0 where
   -- node 1 is passed through, which takes all four roads to tell
-  pub through : (is-valid-node drawing 1 ≡ false) × (roads-read drawing 1 ≡ 4)
-  -- at node 2 the loop settles it, the third road
-  pub looped : (is-valid-node drawing 2 ≡ true) × (roads-read drawing 2 ≡ 3)
+  pub through : (is-valid-node drawn-sheet 1 ≡ false) × (roads-read drawn-sheet 1 ≡ 4)
+  -- at node 2 the loop decides it, the third road
+  pub looped : (is-valid-node drawn-sheet 2 ≡ true) × (roads-read drawn-sheet 2 ≡ 3)
   -- road 0 forces road 1, and road 1 nothing
-  pub on : (forced-continuation drawing 0 ≡ some 1) × (forced-continuation drawing 1 ≡ none)
+  pub on : (forced-continuation drawn-sheet 0 ≡ some 1) × (forced-continuation drawn-sheet 1 ≡ none)
   -- before road 1 comes road 0, before road 0 road 3
-  pub back : (forced-predecessor drawing 1 ≡ some 0) × (forced-predecessor drawing 0 ≡ some 3)
+  pub back : (forced-predecessor drawn-sheet 1 ≡ some 0) × (forced-predecessor drawn-sheet 0 ≡ some 3)

@@ -14,13 +14,13 @@ use Rattle.road_network.specs.declared.graph.Forced.{Forced}
 use Rattle.road_network.specs.declared.graph.Forced.the-variants.{Way, Free}
 
 -- a self-loop, a third neighbour or a second road one way to a neighbour: the node is valid, whatever roads are met later
-unfoldable pub settled : ℕ → List Neighbour → Bool
-settled v xs = ltb 2 (length xs) || any (is-choice v) xs
+unfoldable pub decided : ℕ → List Neighbour → Bool
+decided v xs = ltb 2 (length xs) || any (is-choice v) xs
 
--- the roads read from these numbers on, after the neighbours xs: up to the settling road, itself included, else all
+-- the roads read from these numbers on, after the neighbours xs: up to the deciding road, itself included, else all
 unfoldable pub reads : Sheet → ℕ → List Neighbour → List ℕ → ℕ
 reads t v xs [] = 0
-reads t v xs (r ∷ rs) = cond (settled v (meet-road v xs (road-at t r))) 1 (suc (reads t v (meet-road v xs (road-at t r)) rs))
+reads t v xs (r ∷ rs) = cond (decided v (meet-road v xs (road-at t r))) 1 (suc (reads t v (meet-road v xs (road-at t r)) rs))
 
 -- the roads read of all, by rising number
 abbrev pub roads-read : Sheet → ℕ → ℕ

@@ -9,10 +9,10 @@ ghost use Rattle.model.specs.Judge.{WellFormed};
 ghost use Rattle.model.specs.Sheet.{sheet-of};
 ghost use Rattle.model.specs.Ends.{grown, is-valid-node, way-on, way-back, forced-continuation, forced-predecessor};
 ghost use Rattle.road_network.specs.Graph.{roads-read, is-fork, Forces};
-ghost use Rattle.road_network.specs.Near.{is-second, fresh, meets, meets-road, Few, is-through, has-choice};
+ghost use Rattle.road_network.specs.Neighbours.{is-second, new-neighbour, meet-node, meets-road, Few, is-through, has-choice};
 
 // The neighbours of a node that are met so far, or that there is a choice.
-enum Near {
+enum Neighbours {
     Nobody,
     One(Neighbour),
     Two(Neighbour, Neighbour),
@@ -60,8 +60,8 @@ fn grown(a: Neighbour, inward: bool) -> Neighbour
 }
 
 // A neighbour at its first road.
-fn fresh(v: usize, inward: bool) -> Neighbour
-    ensures { λ r. ⌜ r ≡ fresh v inward ⌝ }
+fn new_neighbour(v: usize, inward: bool) -> Neighbour
+    ensures { λ r. ⌜ r ≡ new-neighbour v inward ⌝ }
 {
     grown(
         Neighbour {
@@ -74,77 +74,77 @@ fn fresh(v: usize, inward: bool) -> Neighbour
 }
 
 // One road more, in from v or out to it.
-fn meet(near: Near, v: usize, inward: bool) -> Near
-    ensures { λ r. ⌜ r ≡ meets near v inward ⌝ }
+fn meet_node(known: Neighbours, v: usize, inward: bool) -> Neighbours
+    ensures { λ r. ⌜ r ≡ meet-node known v inward ⌝ }
 {
-    match near {
-        Near::Nobody => Near::One(fresh(v, inward)),
-        Near::One(a) => {
+    match known {
+        Neighbours::Nobody => Neighbours::One(new_neighbour(v, inward)),
+        Neighbours::One(a) => {
             if a.node != v {
-                return Near::Two(a, fresh(v, inward));
+                return Neighbours::Two(a, new_neighbour(v, inward));
             }
             if is_second(a, inward) {
-                return Near::Choice;
+                return Neighbours::Choice;
             }
-            Near::One(grown(a, inward))
+            Neighbours::One(grown(a, inward))
         }
-        Near::Two(a, b) => {
+        Neighbours::Two(a, b) => {
             if a.node == v {
                 if is_second(a, inward) {
-                    return Near::Choice;
+                    return Neighbours::Choice;
                 }
-                return Near::Two(grown(a, inward), b);
+                return Neighbours::Two(grown(a, inward), b);
             }
             if b.node == v {
                 if is_second(b, inward) {
-                    return Near::Choice;
+                    return Neighbours::Choice;
                 }
-                return Near::Two(a, grown(b, inward));
+                return Neighbours::Two(a, grown(b, inward));
             }
-            Near::Choice // a third neighbour
+            Neighbours::Choice // a third neighbour
         }
-        Near::Choice => Near::Choice,
+        Neighbours::Choice => Neighbours::Choice,
     }
 }
 
 // One road more, from source to target, seen from node v.
-fn meet_road(v: usize, near: Near, source: usize, target: usize) -> Near
-    ensures { λ r. ⌜ r ≡ meets-road v near source target ⌝ }
+fn meet_road(v: usize, known: Neighbours, source: usize, target: usize) -> Neighbours
+    ensures { λ r. ⌜ r ≡ meets-road v known source target ⌝ }
 {
     if target == v {
         if source == v {
-            return Near::Choice; // a self-loop
+            return Neighbours::Choice; // a self-loop
         }
-        return meet(near, source, true);
+        return meet_node(known, source, true);
     }
     if source == v {
-        return meet(near, target, false);
+        return meet_node(known, target, false);
     }
-    near
+    known
 }
 
 // Whether a choice was met.
-fn has_choice(near: Near) -> bool
-    ensures { λ r. ⌜ r ≡ has-choice near ⌝ }
+fn has_choice(known: Neighbours) -> bool
+    ensures { λ r. ⌜ r ≡ has-choice known ⌝ }
 {
-    match near {
-        Near::Choice => true,
-        Near::Nobody => false,
-        Near::One(_) => false,
-        Near::Two(_, _) => false,
+    match known {
+        Neighbours::Choice => true,
+        Neighbours::Nobody => false,
+        Neighbours::One(_) => false,
+        Neighbours::Two(_, _) => false,
     }
 }
 
 // Whether the neighbours are those of a way through: two, and as many roads in as out.
-fn is_through(near: Near) -> bool
-    requires { ⌜ Few near ⌝ }
-    ensures { λ r. ⌜ r ≡ is-through near ⌝ }
+fn is_through(known: Neighbours) -> bool
+    requires { ⌜ Few known ⌝ }
+    ensures { λ r. ⌜ r ≡ is-through known ⌝ }
 {
-    match near {
-        Near::Two(a, b) => a.ins + b.ins == a.outs + b.outs,
-        Near::Nobody => false,
-        Near::One(_) => false,
-        Near::Choice => false,
+    match known {
+        Neighbours::Two(a, b) => a.ins + b.ins == a.outs + b.outs,
+        Neighbours::Nobody => false,
+        Neighbours::One(_) => false,
+        Neighbours::Choice => false,
     }
 }
 
@@ -154,14 +154,14 @@ pub fn test_node(s: &[u8], c: Counts, v: usize) -> Tested
     ensures { λ r. ⌜ (r .valid ≡ is-valid-node (sheet-of (now (s .entry)) c) v) × (r .read ≡ roads-read (sheet-of (now (s .entry)) c) v) ⌝ }
 {
     let e = c.e;
-    let mut near = Near::Nobody;
+    let mut known = Neighbours::Nobody;
     let mut i = 0;
     while i < e {
         let source = roads::source(s, c, i);
         let target = roads::target(s, c, i);
-        near = meet_road(v, near, source, target);
+        known = meet_road(v, known, source, target);
         i += 1;
-        if has_choice(near) {
+        if has_choice(known) {
             return Tested {
                 valid: true,
                 read: i,
@@ -169,7 +169,7 @@ pub fn test_node(s: &[u8], c: Counts, v: usize) -> Tested
         }
     }
     Tested {
-        valid: !is_through(near),
+        valid: !is_through(known),
         read: i,
     }
 }

@@ -1,4 +1,4 @@
--- The best route on one road, start by start and end by end. An end on another road changes nothing.
+-- The best path on one road, start by start and end by end. An end on another road changes nothing.
 use Prim.Native.Nat.{ℕ, _+_, _<_, _≤_}
 use mathlib.Core.Path.{_≡_, refl, sym, ap, _∙_, subst}
 use mathlib.Core.Bool.{Bool, true, false, _&&_}
@@ -47,7 +47,7 @@ module _ (b : Limits) (x : Candidate) (ys : List Candidate) (old : Option Scored
     pub end-apart : (getD ys j no-candidate .road .number ≡ x .road .number → ⊥) → best ≡ fold (take-close b) old (take (j + 1) (map (pair x) ys))
     unfolding close
     end-apart n =
-        close-left b (pair x (getD ys j no-candidate)) best (third-false (x .distance ≤ᶠ f10) (getD ys j no-candidate .distance ≤ᶠ f10) (eqb (x .road .number) (getD ys j no-candidate .road .number)) (permits (b .constraints) (x .road)) (ne-eqb (x .road .number) (getD ys j no-candidate .road .number) (λ q. n (sym q))))
+        close-left b (pair x (getD ys j no-candidate)) best (third-false (x .distance-m ≤ᶠ f10) (getD ys j no-candidate .distance-m ≤ᶠ f10) (eqb (x .road .number) (getD ys j no-candidate .road .number)) (permits (b .constraints) (x .road)) (ne-eqb (x .road .number) (getD ys j no-candidate .road .number) (λ q. n (sym q))))
         ∙ end-taken
 
   pub ends-done : (j : ℕ) → length ys ≤ j → (best : Option Scored) → best ≡ fold (take-close b) old (take j (map (pair x) ys)) → best ≡ fold (take-close b) old (map (pair x) ys)

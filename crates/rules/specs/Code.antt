@@ -1,4 +1,4 @@
--- What the code's records stand for. The roads between the terminal ones of a route are what its search finds.
+-- What the code's records stand for. The roads between the terminal ones of a path are what its search finds.
 use mathlib.Core.Path.{_≡_}
 use mathlib.Core.Option.{Option}
 use mathlib.Core.List.{List, _++_, map}
@@ -8,44 +8,44 @@ use Rattle.model.specs.Lists.{when}
 use Rattle.model.specs.Numbers.{f0}
 use Rattle.model.specs.Search.{none-found}
 use Rattle.model.specs.Legs as legs
-use Rattle.model.specs.Legs.{Coverage, Scored, Pair, Seek, pair, terminal, whole}
+use Rattle.model.specs.Legs.{EdgeCoverage, Scored, Pair, MiddleSearch, pair, terminal, whole}
 use Rattle.candidates.specs.declared.candidate.Candidate.{Candidate}
 use Rattle.candidates.specs.Found.{on}
 use Rattle.search.specs.Answers.{roads-in}
-use Rattle.rules.specs.declared.Part.{Part}
+use Rattle.rules.specs.declared.Terminal.{Terminal}
 use Rattle.rules.specs.declared.Middle.{Middle}
-use Rattle.rules.specs.declared.Route.{Route}
+use Rattle.rules.specs.declared.PathResult.{PathResult}
 use Rattle.rules.specs.declared.Best.{Best}
 
 -- the pair of two candidates, each with its road
 abbrev pub pair-as : Candidate → Road → Candidate → Road → Pair
 pair-as start first end last = pair (on first start) (on last end)
 
-abbrev pub part-of : Part → List Coverage
-part-of p = terminal (p .kept) (p .road) (p .metres)
+abbrev pub terminal-of : Terminal → List EdgeCoverage
+terminal-of p = terminal (p .kept) (p .road) (p .«coverage_m»)
 
--- the route over these roads between its terminal ones
-abbrev pub with-middle : Route → List Road → legs.Route
+-- the path over these roads between its terminal ones
+abbrev pub with-middle : PathResult → List Road → legs.PathResult
 with-middle r middle = record {
-  coverages = part-of (r .head) ++ map whole middle ++ part-of (r .tail);
-  total = r .total;
-  start-offset = r .«start_offset»;
-  end-offset = r .«end_offset»;
+  coverages = terminal-of (r .head) ++ map whole middle ++ terminal-of (r .tail);
+  total-length = r .«total_length»;
+  start-offset-m = r .«start_offset_m»;
+  end-offset-m = r .«end_offset_m»;
 }
 
 abbrev pub no-middle : Middle
 no-middle = record { start = 0; goal = 0; bound = f0; count = 0 }
 
 -- its search, once more
-unfoldable pub middle-in : Seek → Middle → List Road
-middle-in seek m = take (m .count) (roads-in (seek (m .start) (m .goal) (m .bound)))
+unfoldable pub middle-in : MiddleSearch → Middle → List Road
+middle-in search m = take (m .count) (roads-in (search (m .start) (m .goal) (m .bound)))
 
-abbrev pub no-seek : Seek
+abbrev pub no-seek : MiddleSearch
 no-seek start goal bound = none-found
 
-unfoldable pub best-of : Seek → Best → Option Scored
-best-of seek b = when (b .found) record { route = with-middle (b .route) (middle-in seek (b .route .middle)); score = b .score }
+unfoldable pub best-of : MiddleSearch → Best → Option Scored
+best-of search b = when (b .found) record { path = with-middle (b .path) (middle-in search (b .path .middle)); score = b .score }
 
 -- b stands for s, whatever a search finds
-abbrev pub Stands : Best → Option Scored → Type 0
-Stands b s = (seek : Seek) → best-of seek b ≡ s
+abbrev pub BestIs : Best → Option Scored → Type 0
+BestIs b s = (search : MiddleSearch) → best-of search b ≡ s

@@ -1,6 +1,6 @@
-// Lengths, offsets and scores of the routes between a start and an end candidate.
+// Lengths, offsets and scores of the paths between a start and an end candidate.
 ghost use mathlib.Core.Path.{_≡_};
-ghost use Rattle.model.specs.Legs.{score-of, excellent, effective-min, effective-max, length-alone, fits-alone, start-offset, end-offset, length-over, fits-over, stays, middle-max};
+ghost use Rattle.model.specs.Legs.{score-of, excellent, effective-min, effective-max, same-edge-length, fits-same-edge, start-offset, end-offset, path-cost, fits-path, stays, middle-max};
 ghost use Rattle.candidates.specs.Found.{on};
 ghost use Rattle.rules.specs.Code.{pair-as};
 use crate::floats;
@@ -13,17 +13,17 @@ use road_network::spatial;
 pub fn start_offset(x: Candidate, r: Road) -> f64
     ensures { λ v. ⌜ v ≡ start-offset (on r x) ⌝ }
 {
-    r.metres * x.fraction
+    r.length_m * x.projection_fraction
 }
 
 // The metres from its point to the end of its road.
 pub fn end_offset(x: Candidate, r: Road) -> f64
     ensures { λ v. ⌜ v ≡ end-offset (on r x) ⌝ }
 {
-    r.metres * (1.0 - x.fraction)
+    r.length_m * (1.0 - x.projection_fraction)
 }
 
-// The candidates' scores and the length penalty of a route with this total length.
+// The candidates' scores and the length penalty of a path with this total length.
 pub fn score_of(
     b: Limits,
     start: Candidate,
@@ -45,7 +45,7 @@ pub fn score_of(
 pub fn excellent(start: Candidate, first: Road, end: Candidate, last: Road) -> bool
     ensures { λ r. ⌜ r ≡ excellent (pair-as start first end last) ⌝ }
 {
-    start.distance < 5.0 && end.distance < 5.0
+    start.distance_m < 5.0 && end.distance_m < 5.0
 }
 
 // The least length; an excellent match has none.
@@ -55,7 +55,7 @@ pub fn effective_min(b: Limits, start: Candidate, first: Road, end: Candidate, l
     if excellent(start, first, end, last) {
         0.0
     } else {
-        b.least
+        b.min_distance
     }
 }
 
@@ -64,27 +64,27 @@ pub fn effective_max(b: Limits, start: Candidate, first: Road, end: Candidate, l
     ensures { λ r. ⌜ r ≡ effective-max b (pair-as start first end last) ⌝ }
 {
     if excellent(start, first, end, last) {
-        b.greatest * 3.0
+        b.max_valid_distance * 3.0
     } else {
-        b.greatest
+        b.max_valid_distance
     }
 }
 
 // The metres between the two points on the start's road.
-pub fn length_alone(start: Candidate, first: Road, end: Candidate, last: Road) -> f64
-    ensures { λ r. ⌜ r ≡ length-alone (pair-as start first end last) ⌝ }
+pub fn same_edge_length(start: Candidate, first: Road, end: Candidate, last: Road) -> f64
+    ensures { λ r. ⌜ r ≡ same-edge-length (pair-as start first end last) ⌝ }
 {
-    first.metres * (end.fraction - start.fraction)
+    first.length_m * (end.projection_fraction - start.projection_fraction)
 }
 
-// Whether the way from the start to the end on their road is a route.
-pub fn fits_alone(b: Limits, start: Candidate, first: Road, end: Candidate, last: Road) -> bool
-    ensures { λ r. ⌜ r ≡ fits-alone b (pair-as start first end last) ⌝ }
+// Whether the way from the start to the end on their road is a path.
+pub fn fits_same_edge(b: Limits, start: Candidate, first: Road, end: Candidate, last: Road) -> bool
+    ensures { λ r. ⌜ r ≡ fits-same-edge b (pair-as start first end last) ⌝ }
 {
-    if end.fraction - start.fraction <= 0.0 {
+    if end.projection_fraction - start.projection_fraction <= 0.0 {
         return false;
     }
-    let length = length_alone(start, first, end, last);
+    let length = same_edge_length(start, first, end, last);
     if length < effective_min(b, start, first, end, last) {
         return false;
     }
@@ -92,11 +92,11 @@ pub fn fits_alone(b: Limits, start: Candidate, first: Road, end: Candidate, last
     !(greatest < length)
 }
 
-// ---- a route over several roads
+// ---- a path over several roads
 
 // The whole length, with this cost between the two roads.
-pub fn length_over(start: Candidate, first: Road, end: Candidate, last: Road, cost: f64) -> f64
-    ensures { λ r. ⌜ r ≡ length-over (pair-as start first end last) cost ⌝ }
+pub fn path_cost(start: Candidate, first: Road, end: Candidate, last: Road, cost: f64) -> f64
+    ensures { λ r. ⌜ r ≡ path-cost (pair-as start first end last) cost ⌝ }
 {
     let start_part = end_offset(start, first);
     let end_part = start_offset(end, last);
@@ -104,16 +104,16 @@ pub fn length_over(start: Candidate, first: Road, end: Candidate, last: Road, co
 }
 
 // Whether a leg accepts this length.
-pub fn fits_over(b: Limits, total: f64) -> bool
-    ensures { λ r. ⌜ r ≡ fits-over b total ⌝ }
+pub fn fits_path(b: Limits, total: f64) -> bool
+    ensures { λ r. ⌜ r ≡ fits-path b total ⌝ }
 {
     if total <= 0.0 {
         return false;
     }
-    if total < b.least {
+    if total < b.min_distance {
         return false;
     }
-    !(b.greatest < total)
+    !(b.max_valid_distance < total)
 }
 
 // Whether a terminal road stays: its part is at least 0.03 of the length.
@@ -129,5 +129,5 @@ pub fn middle_max(b: Limits, start: Candidate, first: Road, end: Candidate, last
 {
     let start_part = end_offset(start, first);
     let end_part = start_offset(end, last);
-    b.reach - start_part - end_part
+    b.max_search_distance - start_part - end_part
 }

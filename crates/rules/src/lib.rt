@@ -1,4 +1,4 @@
-// The rules of one leg by value: what it accepts, the lengths and scores of its routes, and the best route on one road.
+// The rules of one leg by value: what it accepts, the lengths and scores of its paths, and the best path on one road.
 use model::Road;
 
 pub mod floats;
@@ -7,11 +7,11 @@ pub mod limits;
 pub mod routes;
 pub mod same_edge;
 
-// A terminal road of a route, if it is kept, with the metres that are covered of it.
-pub struct Part {
+// A terminal road of a path, if it is kept, with the metres that are covered of it.
+pub struct Terminal {
     pub kept: bool,
     pub road: Road,
-    pub metres: f64,
+    pub coverage_m: f64,
 }
 
 // The roads between the terminal ones: what a search from `start` to `goal` within `bound` metres finds, `count` of them.
@@ -22,19 +22,19 @@ pub struct Middle {
     pub count: usize,
 }
 
-// A route: its length and offsets, the first road, the roads between, and the last road.
-pub struct Route {
-    pub total: f64,
-    pub start_offset: f64,
-    pub end_offset: f64,
-    pub head: Part,
+// A path: its length and offsets, the first road, the roads between, and the last road.
+pub struct PathResult {
+    pub total_length: f64,
+    pub start_offset_m: f64,
+    pub end_offset_m: f64,
+    pub head: Terminal,
     pub middle: Middle,
-    pub tail: Part,
+    pub tail: Terminal,
 }
 
-// The best route so far, if there is one, with its score.
+// The best path so far, if there is one, with its score.
 pub struct Best {
     pub found: bool,
     pub score: f64,
-    pub route: Route,
+    pub path: PathResult,
 }

@@ -37,15 +37,15 @@ pub fn max_search_distance(c: Settings, dnp: f64) -> f64
 pub fn limits_of(c: Settings, p: Point) -> Limits
     ensures { λ r. ⌜ r ≡ limits-of c p ⌝ }
 {
-    let least = min_distance(c, p.dnp);
-    let greatest = max_valid_distance(c, p.dnp);
-    let reach = max_search_distance(c, p.dnp);
+    let min_distance = min_distance(c, p.dnp);
+    let max_valid_distance = max_valid_distance(c, p.dnp);
+    let max_search_distance = max_search_distance(c, p.dnp);
     let max_frc = road_class::raised(c.frc_tolerance, p.limit);
     Limits {
         dnp: p.dnp,
-        least,
-        greatest,
-        reach,
+        min_distance,
+        max_valid_distance,
+        max_search_distance,
         constraints: AStarConstraints {
             max_frc,
             slip_road_cost_penalty: c.slip_road_cost_penalty,

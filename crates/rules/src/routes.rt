@@ -2,12 +2,12 @@
 ghost use mathlib.Core.Path.{_≡_};
 ghost use mathlib.Core.Bool.{cond};
 ghost use mathlib.Core.Option.{none};
-ghost use Rattle.model.specs.Legs.{Seek, on-one-road, best-score, improve, first-or-better};
-ghost use Rattle.rules.specs.Code.{pair-as, no-middle, no-seek, best-of, Stands};
+ghost use Rattle.model.specs.Legs.{MiddleSearch, same-edge-scored, best-score, improve, first-or-better};
+ghost use Rattle.rules.specs.Code.{pair-as, no-middle, no-seek, best-of, BestIs};
 use crate::Best;
 use crate::Middle;
-use crate::Part;
-use crate::Route;
+use crate::PathResult;
+use crate::Terminal;
 use crate::lengths;
 use candidates::candidate::Candidate;
 use model::Limits;
@@ -25,33 +25,33 @@ fn no_middle() -> Middle
     }
 }
 
-// No route yet.
+// No path yet.
 pub fn no_best() -> Best
-    ensures { λ r. ⌜ Stands r none × (r .route .middle .count ≡ 0) ⌝ }
+    ensures { λ r. ⌜ BestIs r none × (r .route .middle .count ≡ 0) ⌝ }
 {
     let road = Road {
         number: 0,
         id: 0,
-        metres: 0.0,
+        length_m: 0.0,
         source: 0,
         target: 0,
         frc: 0,
         fow: 0,
         access: false,
     };
-    let part = Part {
+    let part = Terminal {
         kept: false,
         road,
-        metres: 0.0,
+        coverage_m: 0.0,
     };
     let middle = no_middle();
     Best {
         found: false,
         score: 0.0,
-        route: Route {
-            total: 0.0,
-            start_offset: 0.0,
-            end_offset: 0.0,
+        path: PathResult {
+            total_length: 0.0,
+            start_offset_m: 0.0,
+            end_offset_m: 0.0,
             head: part,
             middle,
             tail: part,
@@ -59,41 +59,47 @@ pub fn no_best() -> Best
     }
 }
 
-// The route of a pair on the start's road, if its length fits.
-pub fn on_one_road(b: Limits, start: Candidate, first: Road, end: Candidate, last: Road) -> Best
-    ensures { λ r. ⌜ Stands r (on-one-road b (pair-as start first end last)) ⌝ }
+// The path of a pair on the start's road, if its length fits.
+pub fn same_edge_scored(
+    b: Limits,
+    start: Candidate,
+    first: Road,
+    end: Candidate,
+    last: Road,
+) -> Best
+    ensures { λ r. ⌜ BestIs r (same-edge-scored b (pair-as start first end last)) ⌝ }
 {
-    let total = lengths::length_alone(start, first, end, last);
-    let found = lengths::fits_alone(b, start, first, end, last);
+    let total = lengths::same_edge_length(start, first, end, last);
+    let found = lengths::fits_same_edge(b, start, first, end, last);
     let score = lengths::score_of(b, start, first, end, last, total);
     let start_offset = lengths::start_offset(start, first);
-    let end_offset = first.metres * (1.0 - end.fraction);
+    let end_offset = first.length_m * (1.0 - end.projection_fraction);
     let middle = no_middle();
     Best {
         found,
         score,
-        route: Route {
-            total,
-            start_offset,
-            end_offset,
-            head: Part {
+        path: PathResult {
+            total_length: total,
+            start_offset_m: start_offset,
+            end_offset_m: end_offset,
+            head: Terminal {
                 kept: true,
                 road: first,
-                metres: total,
+                coverage_m: total,
             },
             middle,
-            tail: Part {
+            tail: Terminal {
                 kept: false,
                 road: first,
-                metres: 0.0,
+                coverage_m: 0.0,
             },
         },
     }
 }
 
-// The score to beat: f64::MAX where there is no route.
+// The score to beat: f64::MAX where there is no path.
 pub fn best_score(best: Best) -> f64
-    ensures { λ r. ⌜ ((seek : Seek) → r ≡ best-score (best-of seek best)) ⌝ }
+    ensures { λ r. ⌜ ((search : MiddleSearch) → r ≡ best-score (best-of search best)) ⌝ }
 {
     if best.found {
         best.score
@@ -102,9 +108,9 @@ pub fn best_score(best: Best) -> f64
     }
 }
 
-// Whether the next route takes the place of the best one: only on a strictly lower score.
+// Whether the next path takes the place of the best one: only on a strictly lower score.
 pub fn improves(best: Best, next: Best) -> bool
-    ensures { λ r. ⌜ ((seek : Seek) → cond r (best-of seek next) (best-of seek best) ≡ improve (best-of seek best) (best-of seek next)) ⌝ }
+    ensures { λ r. ⌜ ((search : MiddleSearch) → cond r (best-of search next) (best-of search best) ≡ improve (best-of search best) (best-of search next)) ⌝ }
 {
     if next.found {
         return next.score < best_score(best);
@@ -114,14 +120,14 @@ pub fn improves(best: Best, next: Best) -> bool
 
 // The better of the two.
 pub fn improve(best: Best, next: Best) -> Best
-    ensures { λ r. ⌜ ((seek : Seek) → best-of seek r ≡ improve (best-of seek best) (best-of seek next)) ⌝ }
+    ensures { λ r. ⌜ ((search : MiddleSearch) → best-of search r ≡ improve (best-of search best) (best-of search next)) ⌝ }
 {
     if improves(best, next) { next } else { best }
 }
 
 // The same, but the first one counts whatever its score is.
 pub fn first_or_better(best: Best, next: Best) -> Best
-    ensures { λ r. ⌜ ((seek : Seek) → best-of seek r ≡ first-or-better (best-of seek best) (best-of seek next)) ⌝ }
+    ensures { λ r. ⌜ ((search : MiddleSearch) → best-of search r ≡ first-or-better (best-of search best) (best-of search next)) ⌝ }
 {
     if best.found {
         improve(best, next)
@@ -130,21 +136,21 @@ pub fn first_or_better(best: Best, next: Best) -> Best
     }
 }
 
-// The route on its terminal roads alone.
+// The path on its terminal roads alone.
 pub fn without_middle(b: Best) -> Best
-    ensures { λ r. ⌜ (r .route .middle .count ≡ 0) × ((seek : Seek) → best-of seek r ≡ best-of no-seek b) ⌝ }
+    ensures { λ r. ⌜ (r .route .middle .count ≡ 0) × ((search : MiddleSearch) → best-of search r ≡ best-of no-seek b) ⌝ }
 {
-    let route = b.route;
+    let route = b.path;
     let head = route.head;
     let tail = route.tail;
     let middle = no_middle();
     Best {
         found: b.found,
         score: b.score,
-        route: Route {
-            total: route.total,
-            start_offset: route.start_offset,
-            end_offset: route.end_offset,
+        path: PathResult {
+            total_length: route.total_length,
+            start_offset_m: route.start_offset,
+            end_offset_m: route.end_offset,
             head,
             middle,
             tail,

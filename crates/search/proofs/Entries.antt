@@ -9,33 +9,33 @@ use lib.Seq.{getD-set-same, getD-set-other, getD-take}
 use lib.Ieee.{Float, nan}
 use Rattle.model.specs.Numbers.{f0}
 use Rattle.model.specs.Heap.{push, pop}
-use Rattle.model.specs.Search.{Entry, no-entry, entry-at, key-of}
+use Rattle.model.specs.Search.{Entry, no-entry, entry-at, f-score-of}
 use Rattle.model.proofs.Members.{length-tab, getD-table, Every, every-none, every-cons}
 use Rattle.bounds.proofs.HeapLaws.{push-held, pop-held}
 use Rattle.heap.specs.Keys.{key-in, Below}
 use Rattle.heap.proofs.Fronts.{within-list, front-below}
 use Rattle.heap.proofs.KeysSame.{push-same, pop-same}
-use Rattle.search.specs.Areas.{entry-of, entries-of, Columns, Proper}
+use Rattle.search.specs.Areas.{heap-entry, entries-of, Columns, Proper}
 use Rattle.search.proofs.Tables.{table-more}
 
 module _ (key cost : List Float) (node : List ℕ) (made : ℕ) where
   pub entry-count : length (entries-of key cost node made) ≡ made
   unfolding entries-of
-  entry-count = length-tab made 0 (entry-of key cost node)
+  entry-count = length-tab made 0 (heap-entry key cost node)
 
-  pub entry-is : (k : ℕ) → k < made → entry-at (entries-of key cost node made) k ≡ entry-of key cost node k
+  pub entry-is : (k : ℕ) → k < made → entry-at (entries-of key cost node made) k ≡ heap-entry key cost node k
   unfolding entries-of
-  entry-is k h = getD-table made (entry-of key cost node) k no-entry h
+  entry-is k h = getD-table made (heap-entry key cost node) k no-entry h
 
-  pub key-is : (k : ℕ) → k < made → made ≤ length key → key-of (entries-of key cost node made) k ≡ getD key k f0
-  key-is k h l = ap (λ (x : Entry). x .key) (entry-is k h) ∙ within-list key k nan f0 (omega arith)
+  pub key-is : (k : ℕ) → k < made → made ≤ length key → f-score-of (entries-of key cost node made) k ≡ getD key k f0
+  key-is k h l = ap (λ (x : Entry). x .f-score) (entry-is k h) ∙ within-list key k nan f0 (omega arith)
 
   -- a store in each of the three areas behind the last entry is one entry more
   pub entries-more : (x y : Float) (v : ℕ) → made < length key → made < length cost → made < length node
-      → entries-of (set key made x) (set cost made y) (set node made v) (made + 1) ≡ entries-of key cost node made ++ record { key = x; cost = y; node = v } ∷ []
+      → entries-of (set key made x) (set cost made y) (set node made v) (made + 1) ≡ entries-of key cost node made ++ record { f-score = x; g-score = y; node = v } ∷ []
   unfolding entries-of
   entries-more x y v k c n =
-      table-more made (entry-of key cost node) (entry-of (set key made x) (set cost made y) (set node made v)) (record { key = x; cost = y; node = v })
+      table-more made (heap-entry key cost node) (heap-entry (set key made x) (set cost made y) (set node made v)) (record { f-score = x; g-score = y; node = v })
       (rw (getD-set-same key made x nan k, getD-set-same cost made y nan c, getD-set-same node made v 0 n))
       (λ j h. rw (getD-set-other key made j x nan (λ e. omega arith), getD-set-other cost made j y nan (λ e. omega arith), getD-set-other node made j v 0 (λ e. omega arith)))
 
@@ -51,8 +51,8 @@ module _ (key cost : List Float) (node : List ℕ) (made : ℕ) (order order′ 
     (lent : List Float) (agree : (k : ℕ) → k < made → key-in lent k ≡ key-in key k) where
   -- entry e, the last one made, goes in
   module _ (e : ℕ) (last : made ≡ e + 1) (below : Below order len e) (is : take (len + 1) order′ ≡ push (key-in lent) (take len order) e) where
-    pub heap-push : take (len + 1) order′ ≡ push (key-of (entries-of key cost node made)) (take len order) e
-    heap-push = is ∙ push-same (key-in lent) (key-of (entries-of key cost node made)) (take len order) e (λ k m.
+    pub heap-push : take (len + 1) order′ ≡ push (f-score-of (entries-of key cost node made)) (take len order) e
+    heap-push = is ∙ push-same (key-in lent) (f-score-of (entries-of key cost node made)) (take len order) e (λ k m.
         let h : k < made = elim (List·Memᴰ·cases-cons m) [ inl p ↦ omega arith | inr p ↦ omega (arith, below-front order len e fits below k p) ] in
         agree k h ∙ sym (key-is key cost node made k h wide))
 
@@ -63,8 +63,8 @@ module _ (key cost : List Float) (node : List ℕ) (made : ℕ) (order order′ 
 
   -- the first one goes out
   module _ (below : Below order len made) (is : take (len - 1) order′ ≡ pop (key-in lent) (take len order)) where
-    pub heap-pop : take (len - 1) order′ ≡ pop (key-of (entries-of key cost node made)) (take len order)
-    heap-pop = is ∙ pop-same (key-in lent) (key-of (entries-of key cost node made)) (take len order) (λ k m.
+    pub heap-pop : take (len - 1) order′ ≡ pop (f-score-of (entries-of key cost node made)) (take len order)
+    heap-pop = is ∙ pop-same (key-in lent) (f-score-of (entries-of key cost node made)) (take len order) (λ k m.
         let h : k < made = below-front order len made fits below k m in
         agree k h ∙ sym (key-is key cost node made k h wide))
 

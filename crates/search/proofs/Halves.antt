@@ -6,7 +6,7 @@ use native.Mathlib.Omega.{arith}
 use lib.ListN.{length, set, take, drop, length-append, length-take, length-drop, take-append-drop}
 use lib.Seq.{length-take-le, take-at, drop-at, take-set-le, take-set-lt, drop-set-lt, drop-set-add}
 use lib.Ieee.{Float}
-use Rattle.search.specs.Areas.{parts, columns, Sized, SameSizes}
+use Rattle.search.specs.Areas.{make-columns, columns, Sized, SameSizes}
 
 module _ {A : Type 0} (n : ℕ) where
   pub halves-length : (l : List A) → length (take n l) + length (drop n l) ≡ length l
@@ -55,7 +55,7 @@ module _ (n slots : ℕ) (labels : List Float) (came : List ℕ) (entries : List
   lent len made f = record {
     labels = omega (arith, f .real, f .penalised, halves-length n labels);
     came = f .came;
-    entries = omega (arith, f .key, f .cost, halves-length slots entries);
+    entries = omega (arith, f .f-score, f .g-score, halves-length slots entries);
     links = omega (arith, f .order, f .node, halves-length slots links);
   }
 
@@ -64,16 +64,16 @@ module _ (n slots : ℕ) (labels : List Float) (came : List ℕ) (entries : List
     real = halves-sized n labels (f .labels) .0;
     penalised = halves-sized n labels (f .labels) .1;
     came = f .came;
-    key = halves-sized slots entries (f .entries) .0;
-    cost = halves-sized slots entries (f .entries) .1;
+    f-score = halves-sized slots entries (f .entries) .0;
+    g-score = halves-sized slots entries (f .entries) .1;
     node = halves-sized slots links (f .links) .1;
     order = halves-sized slots links (f .links) .0;
   }
 
   -- the order anew
   pub areas-ordered : (len made : ℕ) (order : List ℕ) → length order ≡ slots
-      → columns n slots labels came entries (order ++ drop slots links) len made ≡ parts (take n labels) (drop n labels) came (take slots entries) (drop slots entries) (drop slots links) order len made
-  areas-ordered len made order size = λ i. parts (take n labels) (drop n labels) came (take slots entries) (drop slots entries) (second-kept slots links order size i) (first-lent slots links order size i) len made
+      → columns n slots labels came entries (order ++ drop slots links) len made ≡ make-columns (take n labels) (drop n labels) came (take slots entries) (drop slots entries) (drop slots links) order len made
+  areas-ordered len made order size = λ i. make-columns (take n labels) (drop n labels) came (take slots entries) (drop slots entries) (second-kept slots links order size i) (first-lent slots links order size i) len made
 
   module _ (labels′ : List Float) (came′ : List ℕ) (entries′ : List Float) (links′ : List ℕ) where
     pub areas-same : (len made len′ made′ : ℕ) → length labels′ ≡ length labels → length came′ ≡ length came → length entries′ ≡ length entries → length links′ ≡ length links
@@ -82,8 +82,8 @@ module _ (n slots : ℕ) (labels : List Float) (came : List ℕ) (entries : List
       real = first-size n labels labels′ p;
       penalised = second-size n labels labels′ p;
       came = q;
-      key = first-size slots entries entries′ r;
-      cost = second-size slots entries entries′ r;
+      f-score = first-size slots entries entries′ r;
+      g-score = second-size slots entries entries′ r;
       node = second-size slots links links′ h;
       order = first-size slots links links′ h;
     }

@@ -15,8 +15,8 @@ use Rattle.model.specs.Numbers.{_⊕_, _<ᶠ_, _≤ᶠ_}
 use Rattle.model.specs.Search.{Query, Label, Entry, label-at, real-of, dominated, stale, offered, came-from}
 use Rattle.model.proofs.Members.{getD-table}
 use Rattle.bounds.proofs.Turns.{offered-none, offered-some}
-use Rattle.search.specs.Areas.{unreached, at-start, came-by, marked, label-of, labels-of}
-use Rattle.search.specs.Answers.{Sees}
+use Rattle.search.specs.Areas.{unreached, start-mark, came-by, marked, label-of, labels-of}
+use Rattle.search.specs.Answers.{OfferFacts}
 use Rattle.search.proofs.Tables.{table-set}
 
 -- ---- a label by its mark
@@ -50,13 +50,13 @@ module _ (roads : ℕ → Road) (x y : Float) (k : ℕ) where
   dominated-some g h = rw (marked-some h)
 
   -- the road that it came by
-  pub came-road : k ≢ unreached → k ≢ at-start → came-from (marked roads x y k) ≡ some (roads k)
+  pub came-road : k ≢ unreached → k ≢ start-mark → came-from (marked roads x y k) ≡ some (roads k)
   unfolding came-from came-by
-  came-road h j = rw (marked-some h, came-from, ne-eqb k at-start j)
+  came-road h j = rw (marked-some h, came-from, ne-eqb k start-mark j)
 
-  pub came-start : k ≡ at-start → came-from (marked roads x y k) ≡ none
+  pub came-start : k ≡ start-mark → came-from (marked roads x y k) ≡ none
   unfolding came-from came-by
-  came-start h = rw (marked-some (λ e. omega arith), came-from, eq-eqb k at-start h)
+  came-start h = rw (marked-some (λ e. omega arith), came-from, eq-eqb k start-mark h)
 
   pub came-unreached : k ≡ unreached → came-from (marked roads x y k) ≡ none
   unfolding came-from
@@ -64,32 +64,32 @@ module _ (roads : ℕ → Road) (x y : Float) (k : ℕ) where
 
 -- ---- what a road offers
 
-module _ {q : Query} {e : Entry} {ls : List (Option Label)} {r : Road} {bound real cost extra penalised : Float} {mark : ℕ} (s : Sees q e ls r bound real cost extra penalised mark) where
+module _ {q : Query} {e : Entry} {ls : List (Option Label)} {r : Road} {bound real cost extra penalised : Float} {mark : ℕ} (s : OfferFacts q e ls r bound real cost extra penalised mark) where
   abbrev a : Float
-  a = real ⊕ r .metres
+  a = real ⊕ r .«length_m»
 
   abbrev b : Float
-  b = cost ⊕ r .metres ⊕ extra
+  b = cost ⊕ r .«length_m» ⊕ extra
 
   -- the two tests by which an offer is refused
-  long : (q .bound <ᶠ (real-of (label-at ls (e .node)) ⊕ r .metres)) ≡ (bound <ᶠ a)
-  long = rw (s .bound-is, s .real-is)
+  long : (q .max-cost <ᶠ (real-of (label-at ls (e .node)) ⊕ r .«length_m»)) ≡ (bound <ᶠ a)
+  long = rw (s .max-cost-is, s .real-is)
 
-  worse : (t : Bool) → dominated (marked (s .roads) (s .its-real) penalised mark) b ≡ t → dominated (label-at ls (r .target)) (e .cost ⊕ r .metres ⊕ q .penalty r) ≡ t
-  worse t h = rw (s .cost-is, s .extra-is, s .label-is) h
+  worse : (t : Bool) → dominated (marked (s .roads) (s .its-real) penalised mark) b ≡ t → dominated (label-at ls (r .target)) (e .g-score ⊕ r .«length_m» ⊕ q .penalty r) ≡ t
+  worse t h = rw (s .g-score-is, s .extra-is, s .label-is) h
 
   pub offer-long : (bound <ᶠ a) ≡ true → none ≡ offered q e ls r
   offer-long h = sym (offered-none q e ls r (rw (long ∙ h)))
 
   pub offer-worse : mark ≢ unreached → (penalised ≤ᶠ b) ≡ true → none ≡ offered q e ls r
-  offer-worse h k = sym (offered-none q e ls r (rw (worse true (dominated-some (s .roads) (s .its-real) penalised mark b h ∙ k)) (either-true (q .bound <ᶠ (real-of (label-at ls (e .node)) ⊕ r .metres)))))
+  offer-worse h k = sym (offered-none q e ls r (rw (worse true (dominated-some (s .roads) (s .its-real) penalised mark b h ∙ k)) (either-true (q .max-cost <ᶠ (real-of (label-at ls (e .node)) ⊕ r .«length_m»)))))
     where
       either-true : (t : Bool) → (t || true) ≡ true
       either-true true = refl
       either-true false = refl
 
   taken : (bound <ᶠ a) ≡ false → dominated (marked (s .roads) (s .its-real) penalised mark) b ≡ false → some record { real = a; penalised = b; came-from = some r } ≡ offered q e ls r
-  taken h k = sym (offered-some q e ls r (rw (long ∙ h, worse false k)) ∙ rw (s .real-is, s .cost-is, s .extra-is))
+  taken h k = sym (offered-some q e ls r (rw (long ∙ h, worse false k)) ∙ rw (s .real-is, s .g-score-is, s .extra-is))
 
   pub offer-fresh : (bound <ᶠ a) ≡ false → mark ≡ unreached → some record { real = a; penalised = b; came-from = some r } ≡ offered q e ls r
   offer-fresh h k = taken h (dominated-none (s .roads) (s .its-real) penalised mark b k)

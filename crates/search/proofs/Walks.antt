@@ -10,14 +10,14 @@ use lib.Seq.{length-take-le, take-suc, append-snoc, set-at}
 use lib.Ieee.{Float, nan}
 use Rattle.model.specs.declared.Road.{Road}
 use Rattle.model.specs.Layout.{most-roads}
-use Rattle.model.specs.Search.{Found, found, Label, label-at, real-of, came-from, trace}
+use Rattle.model.specs.Search.{SearchEnd, found, Label, label-at, real-of, came-from, trace}
 use Rattle.bounds.proofs.Choices.{below-or-not}
 use Rattle.bounds.proofs.Traces.{trace-ends, trace-goes}
-use Rattle.search.specs.declared.Search.the-variants as S
+use Rattle.search.specs.declared.SearchEnd.the-variants as S
 use Rattle.search.specs.declared.turns.Progress.{Progress}
 use Rattle.search.specs.declared.turns.Progress.the-variants as P
-use Rattle.search.specs.Areas.{unreached, labels-of, Mark, Ends, Back, back-way, LeadsBack}
-use Rattle.search.specs.Answers.{Arrives, told}
+use Rattle.search.specs.Areas.{unreached, labels-of, MarkOrRoad, EndsWithin, Back, back-way, LeadsBack}
+use Rattle.search.specs.Answers.{GoalReached, told}
 use Rattle.search.proofs.Labels.{label-is, real-reached, came-road, came-start, came-unreached}
 
 -- i roads were walked over, and the trace from the node whose mark is k has those in front
@@ -26,7 +26,7 @@ pub record Walking (n e : ℕ) (roads : ℕ → Road) (came : List ℕ) (goal : 
   pub inside : node < n
   pub mark : k ≡ getD came node 0
   pub to : i ≤ n - 1
-  pub ends : Ends roads e came (n - 1 - i) node
+  pub ends : EndsWithin roads e came (n - 1 - i) node
   pub walked : List ℕ
   pub leads : (j : ℕ) → LeadsBack roads e came j node → LeadsBack roads e came (i + j) goal
   pub all : (j : ℕ) → back-way roads came (i + j) goal ≡ back-way roads came j node ++ walked
@@ -39,7 +39,7 @@ back-size roads came zero v = refl
 back-size roads came (suc k) v = omega (arith, length-append (back-way roads came k (roads (getD came v 0) .source)) (getD came v 0 ∷ []), back-size roads came k (roads (getD came v 0) .source))
 
 -- `few`: no mark is the number of a road. `within`: roads leave nodes.
-module _ (n e : ℕ) (roads : ℕ → Road) (came : List ℕ) (few : e ≤ most-roads) (marks : (v : ℕ) → v < n → Mark e (getD came v 0)) (within : (k : ℕ) → k < e → roads k .source < n) where
+module _ (n e : ℕ) (roads : ℕ → Road) (came : List ℕ) (few : e ≤ most-roads) (marks : (v : ℕ) → v < n → MarkOrRoad e (getD came v 0)) (within : (k : ℕ) → k < e → roads k .source < n) where
   -- ---- one step
 
   module _ (real penalised : List Float) where
@@ -57,7 +57,7 @@ module _ (n e : ℕ) (roads : ℕ → Road) (came : List ℕ) (few : e ≤ most-
     ]
 
     -- where one more step changes nothing, there are no more roads back
-    pub ends-there : (j v : ℕ) (path : List Road) → v < n → trace (suc j) ls v path ≡ trace j ls v path → Ends roads e came j v
+    pub ends-there : (j v : ℕ) (path : List Road) → v < n → trace (suc j) ls v path ≡ trace j ls v path → EndsWithin roads e came j v
     unfolding trace
     ends-there zero v path h same = elim (below-or-not (getD came v 0) e) [
       | inl p ↦ absurd (omega (arith, ap length (sym (trace-goes ls v path 0 (roads (getD came v 0)) (came-by-road v h p)) ∙ same)))
@@ -70,7 +70,7 @@ module _ (n e : ℕ) (roads : ℕ → Road) (came : List ℕ) (few : e ≤ most-
 
   -- ---- the loop
 
-  pub walk-start : (goal : ℕ) → goal < n → Ends roads e came (n - 1) goal → Walking n e roads came goal 0 (getD came goal 0)
+  pub walk-start : (goal : ℕ) → goal < n → EndsWithin roads e came (n - 1) goal → Walking n e roads came goal 0 (getD came goal 0)
   walk-start goal h ends =
       let all : n - 1 ≡ n - 1 - 0 = omega arith in
       record {
@@ -78,7 +78,7 @@ module _ (n e : ℕ) (roads : ℕ → Road) (came : List ℕ) (few : e ≤ most-
         inside = h;
         mark = refl;
         to = omega arith;
-        ends = subst (λ (j : ℕ). Ends roads e came j goal) all ends;
+        ends = subst (λ (j : ℕ). EndsWithin roads e came j goal) all ends;
         walked = [];
         leads = λ j l. subst (λ (m : ℕ). LeadsBack roads e came m goal) {x = j} {y = 0 + j} (omega arith) l;
         all = λ j. ap (λ (m : ℕ). back-way roads came m goal) {x = 0 + j} {y = j} (omega arith) ∙ sym (append-nil (back-way roads came j goal));
@@ -103,7 +103,7 @@ module _ (n e : ℕ) (roads : ℕ → Road) (came : List ℕ) (few : e ≤ most-
       pub walk-room : i < n - 1
       walk-room = go (n - 1 - i) refl (w .ends)
         where
-          go : (j : ℕ) → n - 1 - i ≡ j → Ends roads e came j (w .node) → i < n - 1
+          go : (j : ℕ) → n - 1 - i ≡ j → EndsWithin roads e came j (w .node) → i < n - 1
           go zero is ends = absurd (omega (arith, w .mark))
           go (suc j) is ends = omega arith
 
@@ -121,7 +121,7 @@ module _ (n e : ℕ) (roads : ℕ → Road) (came : List ℕ) (few : e ≤ most-
             inside = subst (λ (u : ℕ). u < n) (sym is) (within k h);
             mark = refl;
             to = omega (arith, walk-room);
-            ends = subst (λ (u : ℕ). Ends roads e came j u) there (subst (λ (m : ℕ). Ends roads e came m node) more (w .ends) below);
+            ends = subst (λ (u : ℕ). EndsWithin roads e came j u) there (subst (λ (m : ℕ). EndsWithin roads e came m node) more (w .ends) below);
             walked = getD came node 0 ∷ w .walked;
             leads = λ m l. subst (λ (x : ℕ). LeadsBack roads e came x goal) {x = i + suc m} {y = i + 1 + m} (omega arith) (w .leads (suc m) (below, subst (λ (u : ℕ). LeadsBack roads e came m u) (sym there) l));
             all = λ m.
@@ -205,7 +205,7 @@ module _ (out₀ walked out : List ℕ) (n i : ℕ) (fewer : i ≤ n) (room : n 
 
 -- ---- the answer
 
-pub arrived-back : {n e : ℕ} {roads : ℕ → Road} {goal : ℕ} {p : Progress} {came : List ℕ} → p ≡ P.Found → Arrives n e roads goal p came → Back n e roads came goal
+pub arrived-back : {n e : ℕ} {roads : ℕ → Road} {goal : ℕ} {p : Progress} {came : List ℕ} → p ≡ P.Found → GoalReached n e roads goal p came → Back n e roads came goal
 arrived-back is h = rw is at h
 
 pub found-there : (roads : ℕ → Road) (n : ℕ) (real penalised : List Float) (came : List ℕ) (goal : ℕ) {shown way : List Road} {x : Float} → goal < n → getD came goal 0 ≢ unreached → shown ≡ way → getD real goal nan ≡ x

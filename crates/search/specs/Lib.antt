@@ -1,3 +1,3 @@
-pub mod Ask
+pub mod Query
 pub mod Areas
 pub mod Answers

@@ -1,5 +1,5 @@
 // The areas with which a search begins.
-use crate::offers::AT_START;
+use crate::offers::START_MARK;
 use crate::offers::UNREACHED;
 use model::Road;
 ghost use mathlib.Core.Path.{_≡_};
@@ -21,7 +21,7 @@ fn clear(came_from: &mut [usize], n: usize)
     }
 }
 
-// The start's label, and one entry for it in the heap; `ahead` is its distance to the goal.
+// The start's label, and one entry for it in the heap; `heuristic` is its distance to the goal.
 pub fn prepare(
     labels: &mut [f64],
     came_from: &mut [usize],
@@ -30,18 +30,18 @@ pub fn prepare(
     n: usize,
     slots: usize,
     start: usize,
-    ahead: f64,
+    heuristic: f64,
 )
     requires { ⌜ (start < n) × (0 < slots) × Sized n slots (columns n slots (now labels) (now «came_from») (now entries) (now links) 0 0) ⌝ }
-    ensures state { λ _. ⌜ ((roads : ℕ → Road) (q : Query) → q .nodes ≡ n → q .ahead start ≡ ahead
+    ensures state { λ _. ⌜ ((roads : ℕ → Road) (q : Query) → q .nodes ≡ n → q .heuristic start ≡ heuristic
         → state-of roads n (columns n slots (now (labels .exit)) (now («came_from» .exit)) (now (entries .exit)) (now (links .exit)) 1 1) ≡ begun q start) ⌝ }
     ensures proper { λ _. ⌜ ((e : ℕ) → Proper n e slots (columns n slots (now (labels .exit)) (now («came_from» .exit)) (now (entries .exit)) (now (links .exit)) 1 1)) ⌝ }
 {
     clear(came_from, n);
     labels[start] = 0.0;
     labels[n + start] = 0.0;
-    came_from[start] = AT_START;
-    entries[0] = ahead;
+    came_from[start] = START_MARK;
+    entries[0] = heuristic;
     entries[slots] = 0.0;
     links[0] = 0;
     links[slots] = start;

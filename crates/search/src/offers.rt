@@ -4,13 +4,13 @@ ghost use mathlib.Core.Path.{_≡_};
 ghost use mathlib.Core.List.{List};
 ghost use mathlib.Core.Option.{Option};
 ghost use Rattle.model.specs.Search.{Query, Entry, Label, offered};
-ghost use Rattle.search.specs.Answers.{Sees, new-label};
+ghost use Rattle.search.specs.Answers.{OfferFacts, new-label};
 
 // In came_from: the node is not reached.
 pub const UNREACHED: usize = 4294967295;
 
 // In came_from: the node is the start.
-pub const AT_START: usize = 4294967294;
+pub const START_MARK: usize = 4294967294;
 
 // Nothing better than the label that is there, or a real and a penalised cost.
 pub enum Offer {
@@ -28,13 +28,13 @@ pub fn offer_of(
     penalised: f64,
     mark: usize,
 ) -> Offer
-    ensures { λ o. ⌜ ((q : Query) (e : Entry) (ls : List (Option Label)) → Sees q e ls r bound real cost extra penalised mark → new-label o r ≡ offered q e ls r) ⌝ }
+    ensures { λ o. ⌜ ((q : Query) (e : Entry) (ls : List (Option Label)) → OfferFacts q e ls r bound real cost extra penalised mark → new-label o r ≡ offered q e ls r) ⌝ }
 {
-    let a = real + r.metres;
+    let a = real + r.length_m;
     if bound < a {
         return Offer::Keep;
     }
-    let b = cost + r.metres + extra;
+    let b = cost + r.length_m + extra;
     if mark != UNREACHED {
         if penalised <= b {
             return Offer::Keep;

@@ -1,8 +1,8 @@
 // One road, and all roads that leave a node.
-use crate::Ask;
+use crate::Query;
+use crate::costs;
 use crate::offers::Offer;
 use crate::offers::offer_of;
-use crate::query;
 use model::Counts;
 use model::Road;
 use sheet::distances::GoalRow;
@@ -14,9 +14,9 @@ ghost use Prim.Native.Nat.{_<_};
 ghost use lib.ListN.{getD};
 ghost use Rattle.model.specs.Sheet.{sheet-of, road-at};
 ghost use Rattle.model.specs.Search.{entered, relax, relax-all};
-ghost use Rattle.search.specs.Ask.{query-at, Ready};
+ghost use Rattle.search.specs.Query.{query-at, QueryReady};
 ghost use Rattle.search.specs.Areas.{unreached, entry-from, columns, state-at, Proper};
-ghost use Rattle.search.specs.Answers.{outcome, After};
+ghost use Rattle.search.specs.Answers.{state-after, AfterRelaxing};
 
 // The heap's length and the number of entries made after a step, or no slot left.
 pub enum Relaxed {
@@ -28,7 +28,7 @@ pub enum Relaxed {
 fn enter(
     s: &[u8],
     c: Counts,
-    ask: Ask,
+    query: Query,
     row: GoalRow,
     slots: usize,
     labels: &mut [f64],
@@ -41,11 +41,11 @@ fn enter(
     a: f64,
     b: f64,
 ) -> Relaxed
-    requires { ⌜ Ready (now s) c ask row × Proper (c .n) (c .e) slots (columns (c .n) slots (now labels) (now «came_from») (now entries) (now links) len made) × (r .target < c .n) × (r .number < c .e) ⌝ }
-    ensures kept { λ o. ⌜ After (c .n) (c .e) slots (columns (c .n) slots (now (labels .entry)) (now («came_from» .entry)) (now (entries .entry)) (now (links .entry)) len made)
+    requires { ⌜ QueryReady (now s) c query row × Proper (c .n) (c .e) slots (columns (c .n) slots (now labels) (now «came_from») (now entries) (now links) len made) × (r .target < c .n) × (r .number < c .e) ⌝ }
+    ensures kept { λ o. ⌜ AfterRelaxing (c .n) (c .e) slots (columns (c .n) slots (now (labels .entry)) (now («came_from» .entry)) (now (entries .entry)) (now (links .entry)) len made)
         o (columns (c .n) slots (now (labels .exit)) (now («came_from» .exit)) (now (entries .exit)) (now (links .exit))) ⌝ }
-    ensures state { λ o. ⌜ outcome o (λ l m. state-at (now (s .entry)) c (columns (c .n) slots (now (labels .exit)) (now («came_from» .exit)) (now (entries .exit)) (now (links .exit)) l m))
-        ≡ entered slots (query-at (now (s .entry)) c ask) (state-at (now (s .entry)) c (columns (c .n) slots (now (labels .entry)) (now («came_from» .entry)) (now (entries .entry)) (now (links .entry)) len made))
+    ensures state { λ o. ⌜ state-after o (λ l m. state-at (now (s .entry)) c (columns (c .n) slots (now (labels .exit)) (now («came_from» .exit)) (now (entries .exit)) (now (links .exit)) l m))
+        ≡ entered slots (query-at (now (s .entry)) c query) (state-at (now (s .entry)) c (columns (c .n) slots (now (labels .entry)) (now («came_from» .entry)) (now (entries .entry)) (now (links .entry)) len made))
         (r .target) record { real = a; penalised = b; came-from = some (road-at (sheet-of (now (s .entry)) c) (r .number)) } ⌝ }
 {
     if slots <= made {
@@ -56,7 +56,7 @@ fn enter(
     labels[v] = a;
     labels[n + v] = b;
     came_from[v] = r.number;
-    entries[made] = b + query::ahead(s, c, ask, row, v);
+    entries[made] = b + costs::heuristic(s, c, query, row, v);
     entries[slots + made] = b;
     links[slots + made] = v;
     heap::push(&mut links[..slots], entries, len, made);
@@ -69,7 +69,7 @@ fn enter(
 fn relax(
     s: &[u8],
     c: Counts,
-    ask: Ask,
+    query: Query,
     row: GoalRow,
     slots: usize,
     labels: &mut [f64],
@@ -82,18 +82,18 @@ fn relax(
     g: f64,
     r: Road,
 ) -> Relaxed
-    requires { ⌜ Ready (now s) c ask row × Proper (c .n) (c .e) slots (columns (c .n) slots (now labels) (now «came_from») (now entries) (now links) len made) ⌝ }
+    requires { ⌜ QueryReady (now s) c query row × Proper (c .n) (c .e) slots (columns (c .n) slots (now labels) (now «came_from») (now entries) (now links) len made) ⌝ }
     requires { ⌜ (u < c .n) × (getD (now «came_from») u 0 ≢ unreached) × (r .target < c .n) × (r .number < c .e) × (road-at (sheet-of (now s) c) (r .number) ≡ r) ⌝ }
-    ensures kept { λ o. ⌜ After (c .n) (c .e) slots (columns (c .n) slots (now (labels .entry)) (now («came_from» .entry)) (now (entries .entry)) (now (links .entry)) len made)
+    ensures kept { λ o. ⌜ AfterRelaxing (c .n) (c .e) slots (columns (c .n) slots (now (labels .entry)) (now («came_from» .entry)) (now (entries .entry)) (now (links .entry)) len made)
         o (columns (c .n) slots (now (labels .exit)) (now («came_from» .exit)) (now (entries .exit)) (now (links .exit))) ⌝ }
-    ensures state { λ o. ⌜ outcome o (λ l m. state-at (now (s .entry)) c (columns (c .n) slots (now (labels .exit)) (now («came_from» .exit)) (now (entries .exit)) (now (links .exit)) l m))
-        ≡ relax slots (query-at (now (s .entry)) c ask) (entry-from u g) (state-at (now (s .entry)) c (columns (c .n) slots (now (labels .entry)) (now («came_from» .entry)) (now (entries .entry)) (now (links .entry)) len made)) r ⌝ }
+    ensures state { λ o. ⌜ state-after o (λ l m. state-at (now (s .entry)) c (columns (c .n) slots (now (labels .exit)) (now («came_from» .exit)) (now (entries .exit)) (now (links .exit)) l m))
+        ≡ relax slots (query-at (now (s .entry)) c query) (entry-from u g) (state-at (now (s .entry)) c (columns (c .n) slots (now (labels .entry)) (now («came_from» .entry)) (now (entries .entry)) (now (links .entry)) len made)) r ⌝ }
 {
     let v = r.target;
     let n = c.n;
-    let extra = query::penalty(ask, r);
+    let extra = costs::penalty(query, r);
     let o = offer_of(
-        ask.bound,
+        query.max_cost,
         labels[u],
         g,
         r,
@@ -106,7 +106,7 @@ fn relax(
         Offer::Better(a, b) => enter(
             s,
             c,
-            ask,
+            query,
             row,
             slots,
             labels,
@@ -126,7 +126,7 @@ fn relax(
 pub fn relax_all(
     s: &[u8],
     c: Counts,
-    ask: Ask,
+    query: Query,
     row: GoalRow,
     slots: usize,
     labels: &mut [f64],
@@ -138,12 +138,12 @@ pub fn relax_all(
     u: usize,
     g: f64,
 ) -> Relaxed
-    requires { ⌜ Ready (now s) c ask row × Proper (c .n) (c .e) slots (columns (c .n) slots (now labels) (now «came_from») (now entries) (now links) «first_len» «first_made») ⌝ }
+    requires { ⌜ QueryReady (now s) c query row × Proper (c .n) (c .e) slots (columns (c .n) slots (now labels) (now «came_from») (now entries) (now links) «first_len» «first_made») ⌝ }
     requires { ⌜ (u < c .n) × (getD (now «came_from») u 0 ≢ unreached) ⌝ }
-    ensures kept { λ o. ⌜ After (c .n) (c .e) slots (columns (c .n) slots (now (labels .entry)) (now («came_from» .entry)) (now (entries .entry)) (now (links .entry)) «first_len» «first_made»)
+    ensures kept { λ o. ⌜ AfterRelaxing (c .n) (c .e) slots (columns (c .n) slots (now (labels .entry)) (now («came_from» .entry)) (now (entries .entry)) (now (links .entry)) «first_len» «first_made»)
         o (columns (c .n) slots (now (labels .exit)) (now («came_from» .exit)) (now (entries .exit)) (now (links .exit))) ⌝ }
-    ensures state { λ o. ⌜ outcome o (λ l m. state-at (now (s .entry)) c (columns (c .n) slots (now (labels .exit)) (now («came_from» .exit)) (now (entries .exit)) (now (links .exit)) l m))
-        ≡ relax-all slots (query-at (now (s .entry)) c ask) (entry-from u g) (query-at (now (s .entry)) c ask .leaving u)
+    ensures state { λ o. ⌜ state-after o (λ l m. state-at (now (s .entry)) c (columns (c .n) slots (now (labels .exit)) (now («came_from» .exit)) (now (entries .exit)) (now (links .exit)) l m))
+        ≡ relax-all slots (query-at (now (s .entry)) c query) (entry-from u g) (query-at (now (s .entry)) c query .leaving u)
         (state-at (now (s .entry)) c (columns (c .n) slots (now (labels .entry)) (now («came_from» .entry)) (now (entries .entry)) (now (links .entry)) «first_len» «first_made»)) ⌝ }
 {
     let mut len = first_len;
@@ -154,11 +154,11 @@ pub fn relax_all(
         let k = roads::entry(s, c, i);
         let r = roads::road(s, c, k);
         i += 1;
-        if query::permits(ask, r) {
+        if costs::permits(query, r) {
             let x = relax(
                 s,
                 c,
-                ask,
+                query,
                 row,
                 slots,
                 labels,

@@ -1,6 +1,6 @@
 // The roads that a search found: from its marks, back from the goal.
-use crate::Ask;
-use crate::Search;
+use crate::Query;
+use crate::SearchEnd;
 use crate::turns::Progress;
 use model::Counts;
 use sheet::roads;
@@ -13,9 +13,9 @@ ghost use mathlib.Core.List.{List};
 ghost use Rattle.model.specs.Judge.{WellFormed};
 ghost use Rattle.model.specs.Sheet.{sheet-of, road-at};
 ghost use Rattle.model.specs.Search.{trace};
-ghost use Rattle.search.specs.Ask.{query-at};
+ghost use Rattle.search.specs.Query.{query-at};
 ghost use Rattle.search.specs.Areas.{labels-of, labels-at, Back, back-way, LeadsBack};
-ghost use Rattle.search.specs.Answers.{ended, Arrives, told, roads-in, Traced};
+ghost use Rattle.search.specs.Answers.{end-of-search, GoalReached, told, roads-in, Traced};
 
 // Turns a list round in place.
 pub fn reverse(a: &mut [usize])
@@ -50,27 +50,27 @@ fn count_back(s: &[u8], c: Counts, came_from: &[usize], goal: usize) -> usize
 }
 
 // What a search that has ended found: the real cost kept at the goal, and how many roads lead there.
-pub fn search_end(
+pub fn end_of_search(
     s: &[u8],
     c: Counts,
-    ask: Ask,
+    query: Query,
     progress: Progress,
     labels: &[f64],
     came_from: &[usize],
-) -> Search
-    requires { ⌜ WellFormed (now s) c × (ask .goal < c .n) × (c .n ≤ length (now labels)) × Arrives (c .n) (c .e) (road-at (sheet-of (now s) c)) (ask .goal) progress (now «came_from») ⌝ }
-    ensures found { λ r. ⌜ r ≡ told (ended (c .n - 1) (query-at (now (s .entry)) c ask) progress (labels-at (now (s .entry)) c (now (labels .entry)) (now («came_from» .entry)))) ⌝ }
-    ensures traced { λ r. ⌜ Traced (sheet-of (now (s .entry)) c) c (ask .goal) (now («came_from» .entry)) r
-        (roads-in (ended (c .n - 1) (query-at (now (s .entry)) c ask) progress (labels-at (now (s .entry)) c (now (labels .entry)) (now («came_from» .entry))))) ⌝ }
+) -> SearchEnd
+    requires { ⌜ WellFormed (now s) c × (query .goal < c .n) × (c .n ≤ length (now labels)) × GoalReached (c .n) (c .e) (road-at (sheet-of (now s) c)) (query .goal) progress (now «came_from») ⌝ }
+    ensures found { λ r. ⌜ r ≡ told (end-of-search (c .n - 1) (query-at (now (s .entry)) c query) progress (labels-at (now (s .entry)) c (now (labels .entry)) (now («came_from» .entry)))) ⌝ }
+    ensures traced { λ r. ⌜ Traced (sheet-of (now (s .entry)) c) c (query .goal) (now («came_from» .entry)) r
+        (roads-in (end-of-search (c .n - 1) (query-at (now (s .entry)) c query) progress (labels-at (now (s .entry)) c (now (labels .entry)) (now («came_from» .entry))))) ⌝ }
 {
     match progress {
-        Progress::Looking => Search::Nothing,
-        Progress::Full => Search::Full,
+        Progress::Looking => SearchEnd::Nothing,
+        Progress::Full => SearchEnd::Full,
         Progress::Found => {
-            let goal = ask.goal;
+            let goal = query.goal;
             let n = count_back(s, c, came_from, goal);
             let x = labels[goal];
-            Search::Found(x, n)
+            SearchEnd::Found(x, n)
         }
     }
 }

@@ -1,5 +1,5 @@
 // The turns of a search, each with one entry taken out of the heap.
-use crate::Ask;
+use crate::Query;
 use crate::relax::Relaxed;
 use crate::relax::relax_all;
 use model::Counts;
@@ -8,9 +8,9 @@ ghost use mathlib.Core.Path.{_≡_};
 ghost use Prim.Native.Nat.{ℕ, _<_};
 ghost use lib.ListN.{take, drop};
 ghost use Rattle.model.specs.Search.{visit, run};
-ghost use Rattle.search.specs.Ask.{query-at, Ready};
-ghost use Rattle.search.specs.Areas.{labels-at, entry-of, columns, state-at, Proper};
-ghost use Rattle.search.specs.Answers.{step-of, turn-of, Went, Stands, ended};
+ghost use Rattle.search.specs.Query.{query-at, QueryReady};
+ghost use Rattle.search.specs.Areas.{labels-at, heap-entry, columns, state-at, Proper};
+ghost use Rattle.search.specs.Answers.{step-of, turn-after, AfterVisit, SearchState, end-of-search};
 
 // Whether the search still looks for the goal, has found it, or has no slot left. One that looks with an empty heap has no way.
 pub enum Progress {
@@ -20,23 +20,23 @@ pub enum Progress {
 }
 
 // The progress, the heap's length and the number of entries made; the length is 0 where the search has ended.
-pub struct Turn {
+pub struct SearchTurn {
     pub progress: Progress,
     pub len: usize,
     pub made: usize,
 }
 
 // After the roads of a node: the search looks on, or it is full with all slots used.
-fn settle(x: Relaxed, slots: usize) -> Turn
-    ensures { λ t. ⌜ t ≡ turn-of slots x ⌝ }
+fn after_relaxing(x: Relaxed, slots: usize) -> SearchTurn
+    ensures { λ t. ⌜ t ≡ turn-after slots x ⌝ }
 {
     match x {
-        Relaxed::Done(len, made) => Turn {
+        Relaxed::Done(len, made) => SearchTurn {
             progress: Progress::Looking,
             len,
             made,
         },
-        Relaxed::Full => Turn {
+        Relaxed::Full => SearchTurn {
             progress: Progress::Full,
             len: 0,
             made: slots,
@@ -48,7 +48,7 @@ fn settle(x: Relaxed, slots: usize) -> Turn
 fn visit(
     s: &[u8],
     c: Counts,
-    ask: Ask,
+    query: Query,
     row: GoalRow,
     slots: usize,
     labels: &mut [f64],
@@ -58,27 +58,27 @@ fn visit(
     len: usize,
     made: usize,
     e: usize,
-) -> Turn
-    requires { ⌜ Ready (now s) c ask row × Proper (c .n) (c .e) slots (columns (c .n) slots (now labels) (now «came_from») (now entries) (now links) len made) × (e < made) ⌝ }
-    ensures kept { λ t. ⌜ Went (c .n) (c .e) slots (ask .goal) (columns (c .n) slots (now (labels .entry)) (now («came_from» .entry)) (now (entries .entry)) (now (links .entry)) len made)
+) -> SearchTurn
+    requires { ⌜ QueryReady (now s) c query row × Proper (c .n) (c .e) slots (columns (c .n) slots (now labels) (now «came_from») (now entries) (now links) len made) × (e < made) ⌝ }
+    ensures kept { λ t. ⌜ AfterVisit (c .n) (c .e) slots (query .goal) (columns (c .n) slots (now (labels .entry)) (now («came_from» .entry)) (now (entries .entry)) (now (links .entry)) len made)
         (t .progress) (columns (c .n) slots (now (labels .exit)) (now («came_from» .exit)) (now (entries .exit)) (now (links .exit)) (t .len) (t .made)) ⌝ }
-    ensures state { λ t. ⌜ ((steps : ℕ) → step-of steps (query-at (now (s .entry)) c ask) (t .progress) (state-at (now (s .entry)) c (columns (c .n) slots (now (labels .exit)) (now («came_from» .exit)) (now (entries .exit)) (now (links .exit)) (t .len) (t .made)))
-        ≡ visit steps slots (query-at (now (s .entry)) c ask) (entry-of (take slots (now (entries .entry))) (drop slots (now (entries .entry))) (drop slots (now (links .entry))) e)
+    ensures state { λ t. ⌜ ((steps : ℕ) → step-of steps (query-at (now (s .entry)) c query) (t .progress) (state-at (now (s .entry)) c (columns (c .n) slots (now (labels .exit)) (now («came_from» .exit)) (now (entries .exit)) (now (links .exit)) (t .len) (t .made)))
+        ≡ visit steps slots (query-at (now (s .entry)) c query) (heap-entry (take slots (now (entries .entry))) (drop slots (now (entries .entry))) (drop slots (now (links .entry))) e)
         (state-at (now (s .entry)) c (columns (c .n) slots (now (labels .entry)) (now («came_from» .entry)) (now (entries .entry)) (now (links .entry)) len made))) ⌝ }
 {
     let u = links[slots + e];
     let g = entries[slots + e];
     let n = c.n;
     let kept = labels[n + u];
-    if u == ask.goal {
-        return Turn {
+    if u == query.goal {
+        return SearchTurn {
             progress: Progress::Found,
             len: 0,
             made,
         };
     }
     if kept < g {
-        return Turn {
+        return SearchTurn {
             progress: Progress::Looking,
             len,
             made,
@@ -87,7 +87,7 @@ fn visit(
     let x = relax_all(
         s,
         c,
-        ask,
+        query,
         row,
         slots,
         labels,
@@ -99,27 +99,27 @@ fn visit(
         u,
         g,
     );
-    settle(x, slots)
+    after_relaxing(x, slots)
 }
 
 // Takes entries out of the heap until the goal comes up, the heap is empty or a slot is missing.
 pub fn run_search(
     s: &[u8],
     c: Counts,
-    ask: Ask,
+    query: Query,
     row: GoalRow,
     slots: usize,
     labels: &mut [f64],
     came_from: &mut [usize],
     entries: &mut [f64],
     links: &mut [usize],
-) -> Turn
-    requires { ⌜ Ready (now s) c ask row × Proper (c .n) (c .e) slots (columns (c .n) slots (now labels) (now «came_from») (now entries) (now links) 1 1) ⌝ }
-    ensures stands { λ t. ⌜ Stands (c .n) (c .e) slots (ask .goal) (t .progress) (columns (c .n) slots (now (labels .exit)) (now («came_from» .exit)) (now (entries .exit)) (now (links .exit)) (t .len) (t .made)) ⌝ }
-    ensures found { λ t. ⌜ ((steps : ℕ) → ended steps (query-at (now (s .entry)) c ask) (t .progress) (labels-at (now (s .entry)) c (now (labels .exit)) (now («came_from» .exit)))
-        ≡ run steps slots slots (query-at (now (s .entry)) c ask) (state-at (now (s .entry)) c (columns (c .n) slots (now (labels .entry)) (now («came_from» .entry)) (now (entries .entry)) (now (links .entry)) 1 1))) ⌝ }
+) -> SearchTurn
+    requires { ⌜ QueryReady (now s) c query row × Proper (c .n) (c .e) slots (columns (c .n) slots (now labels) (now «came_from») (now entries) (now links) 1 1) ⌝ }
+    ensures stands { λ t. ⌜ SearchState (c .n) (c .e) slots (query .goal) (t .progress) (columns (c .n) slots (now (labels .exit)) (now («came_from» .exit)) (now (entries .exit)) (now (links .exit)) (t .len) (t .made)) ⌝ }
+    ensures found { λ t. ⌜ ((steps : ℕ) → end-of-search steps (query-at (now (s .entry)) c query) (t .progress) (labels-at (now (s .entry)) c (now (labels .exit)) (now («came_from» .exit)))
+        ≡ run steps slots slots (query-at (now (s .entry)) c query) (state-at (now (s .entry)) c (columns (c .n) slots (now (labels .entry)) (now («came_from» .entry)) (now (entries .entry)) (now (links .entry)) 1 1))) ⌝ }
 {
-    let mut t = Turn {
+    let mut t = SearchTurn {
         progress: Progress::Looking,
         len: 1,
         made: 1,
@@ -132,7 +132,7 @@ pub fn run_search(
         t = visit(
             s,
             c,
-            ask,
+            query,
             row,
             slots,
             labels,

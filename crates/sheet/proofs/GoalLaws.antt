@@ -9,7 +9,7 @@ use lib.Ieee.{Float}
 use borrow.Author.Tests.{ltb-true, eq-eqb, ne-eqb}
 use Rattle.model.specs.declared.Counts.{Counts}
 use Rattle.model.specs.Numbers.{f0}
-use Rattle.model.specs.Lists.{tab}
+use Rattle.model.specs.Lists.{tabulate}
 use Rattle.model.specs.Bytes.{f64-at}
 use Rattle.model.specs.Layout.{distances-at, goals-at, goal-width, distances-bytes}
 use Rattle.model.specs.Judge.{WellFormed, goal-node, goal-rises, rows-good}
@@ -39,8 +39,8 @@ module _ (x : Goal) (xs : List Goal) (v : ℕ) where
   to-later ne = rw (ne-eqb (x .node) v ne)
 
 module _ (f : ℕ → Goal) (v : ℕ) where
-  to-tab : (n i k : ℕ) → k < n → f (i + k) .node ≡ v → ((j : ℕ) → j < k → f (i + j) .node ≡ v → ⊥) → distances-to (tab n i f) v ≡ f (i + k) .distances
-  unfolding tab
+  to-tab : (n i k : ℕ) → k < n → f (i + k) .node ≡ v → ((j : ℕ) → j < k → f (i + j) .node ≡ v → ⊥) → distances-to (tabulate n i f) v ≡ f (i + k) .distances
+  unfolding tabulate
   to-tab zero i k h e before = absurd (not-suc-le-zero h)
   to-tab (suc n) i zero h e before =
       let there : i + 0 ≡ i = add-zero i in
@@ -51,8 +51,8 @@ module _ (f : ℕ → Goal) (v : ℕ) where
       ∙ to-tab n (i + 1) k (le-of-suc-le-suc h) (rw there at e) (λ j hj p. before (suc j) (omega arith) (subst (λ (m : ℕ). f m .node ≡ v) {x = i + 1 + j} {y = i + suc j} (omega arith) p))
       ∙ ap (λ (m : ℕ). f m .distances) (sym there)
 
-  to-none : (n i : ℕ) → ((j : ℕ) → j < n → f (i + j) .node ≡ v → ⊥) → distances-to (tab n i f) v ≡ []
-  unfolding tab
+  to-none : (n i : ℕ) → ((j : ℕ) → j < n → f (i + j) .node ≡ v → ⊥) → distances-to (tabulate n i f) v ≡ []
+  unfolding tabulate
   to-none zero i never = to-nil v
   to-none (suc n) i never =
       to-later (f i) _ v (λ p. never 0 (omega arith) (subst (λ (m : ℕ). f m .node ≡ v) (sym (add-zero i)) p))

@@ -1,5 +1,5 @@
 pub mod RoadFields
 pub mod Parts
-pub mod Stops
+pub mod MeasuredPoints
 pub mod Halving
 pub mod GoalLaws

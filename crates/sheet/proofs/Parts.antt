@@ -6,7 +6,7 @@ use native.Mathlib.Omega.{arith}
 use lib.ListN.{getD}
 use Rattle.model.specs.declared.Counts.{Counts}
 use Rattle.model.specs.declared.Road.{Road}
-use Rattle.model.specs.Lists.{tab}
+use Rattle.model.specs.Lists.{tabulate}
 use Rattle.model.specs.Judge.{WellFormed, source-of, start-of, entry-of}
 use Rattle.model.specs.Sheet.{part, sheet-of, road-at, list-at, leaving-roads}
 use Rattle.model.proofs.Members.{getD-tab}
@@ -15,8 +15,8 @@ use Rattle.model.proofs.Listed as listed
 use Rattle.model.proofs.Parsed.{list-is, source-is}
 
 -- what a function makes of a run is the run of what it makes
-pub map-tab : {A B : Type 0} (g : A → B) (f : ℕ → A) (n i : ℕ) → map g (tab n i f) ≡ tab n i (λ k. g (f k))
-unfolding tab
+pub map-tab : {A B : Type 0} (g : A → B) (f : ℕ → A) (n i : ℕ) → map g (tabulate n i f) ≡ tabulate n i (λ k. g (f k))
+unfolding tabulate
 map-tab g f zero i = refl
 map-tab {B} g f (suc n) i = ap (λ (ys : List B). g (f i) ∷ ys) (map-tab g f n (i + 1))
 
@@ -25,11 +25,11 @@ module _ (s : List ℕ) (c : Counts) (ok : WellFormed s c) (v : ℕ) (h : v < c 
   starts-rise = listed.start-le s c (ok .sound) (ok .lists) v (v + 1) (omega arith) (omega arith)
 
   -- the roads leaving v: the entries from its start on, up to the next start
-  pub part-is : list-at (sheet-of s c) v ≡ tab (start-of s c (v + 1) - start-of s c v) (start-of s c v) (entry-of s c)
+  pub part-is : list-at (sheet-of s c) v ≡ tabulate (start-of s c (v + 1) - start-of s c v) (start-of s c v) (entry-of s c)
   unfolding part
   part-is = list-is s c v h
 
-  pub leaving-are : leaving-roads (sheet-of s c) v ≡ tab (start-of s c (v + 1) - start-of s c v) (start-of s c v) (λ j. road-at (sheet-of s c) (entry-of s c j))
+  pub leaving-are : leaving-roads (sheet-of s c) v ≡ tabulate (start-of s c (v + 1) - start-of s c v) (start-of s c v) (λ j. road-at (sheet-of s c) (entry-of s c j))
   leaving-are = ap (map (road-at (sheet-of s c))) part-is ∙ map-tab (road-at (sheet-of s c)) (entry-of s c) _ _
 
   -- the k-th of them

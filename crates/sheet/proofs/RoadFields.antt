@@ -28,5 +28,5 @@ module _ (s : List ℕ) (c : Counts) (r : ℕ) (h : r < c .e) where
   access-is = ap (λ (x : Road). x .access) (road-is s c r h) ∙ ap (λ (b : ℕ). eqb b 1) (u8-section s _ 32 26 _ (omega arith) refl)
 
 -- what has the fields of a road is that road
-pub same-road : (x : Road) {number id source target frc fow : ℕ} {metres : Float} {access : Bool} → number ≡ x .number → id ≡ x .id → metres ≡ x .metres → source ≡ x .source → target ≡ x .target → frc ≡ x .frc → fow ≡ x .fow → access ≡ x .access → _≡_ {A = Road} (record { number = number; id = id; metres = metres; source = source; target = target; frc = frc; fow = fow; access = access }) x
-same-road x number id metres source target frc fow access = λ i. record { number = number i; id = id i; metres = metres i; source = source i; target = target i; frc = frc i; fow = fow i; access = access i }
+pub same-road : (x : Road) {number id source target frc fow : ℕ} {metres : Float} {access : Bool} → number ≡ x .number → id ≡ x .id → metres ≡ x .«length_m» → source ≡ x .source → target ≡ x .target → frc ≡ x .frc → fow ≡ x .fow → access ≡ x .access → _≡_ {A = Road} (record { number = number; id = id; «length_m» = metres; source = source; target = target; frc = frc; fow = fow; access = access }) x
+same-road x number id metres source target frc fow access = λ i. record { number = number i; id = id i; «length_m» = metres i; source = source i; target = target i; frc = frc i; fow = fow i; access = access i }

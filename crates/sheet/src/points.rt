@@ -117,9 +117,9 @@ pub fn row(s: &[u8], c: Counts, k: usize) -> Row
     let line = fields::f64_at(s, at + 32);
     Row {
         road,
-        distance,
+        distance_m: distance,
         bearing,
-        along,
-        line,
+        along_m: along,
+        length_m: line,
     }
 }

@@ -25,9 +25,9 @@ pub fn target(s: &[u8], c: Counts, r: usize) -> usize
 }
 
 // The length of road r.
-pub fn metres(s: &[u8], c: Counts, r: usize) -> f64
+pub fn length_m(s: &[u8], c: Counts, r: usize) -> f64
     requires { ⌜ WellFormed (now s) c × (r < c .e) ⌝ }
-    ensures { λ v. ⌜ v ≡ road-at (sheet-of (now (s .entry)) c) r .metres ⌝ }
+    ensures { λ v. ⌜ v ≡ road-at (sheet-of (now (s .entry)) c) r .«length_m» ⌝ }
 {
     let at = layout::roads_at(c) + r * 32;
     fields::f64_at(s, at + 8)
@@ -75,7 +75,7 @@ pub fn road(s: &[u8], c: Counts, r: usize) -> Road
     ensures { λ v. ⌜ (v ≡ road-at (sheet-of (now (s .entry)) c) r) × (v .source < c .n) × (v .target < c .n) × (v .frc ≤ 7) × (v .fow ≤ 7) ⌝ }
 {
     let id = id(s, c, r);
-    let metres = metres(s, c, r);
+    let length_m = length_m(s, c, r);
     let source = source(s, c, r);
     let target = target(s, c, r);
     let frc = frc(s, c, r);
@@ -84,7 +84,7 @@ pub fn road(s: &[u8], c: Counts, r: usize) -> Road
     Road {
         number: r,
         id,
-        metres,
+        length_m,
         source,
         target,
         frc,

@@ -9,7 +9,7 @@ use Rattle.answers.proofs.write_lengths.Statement.{statement}
 use Rattle.answers.proofs.write_lengths.Tie as tie
 
 abbrev Inv-loop : tie.InvT-loop
-Inv-loop s c path n lengths₀ j₀ lengths j = (j ≤ n) × Filling (map (λ r. road-at (sheet-of s c) r .metres) (take j path)) lengths₀ lengths j
+Inv-loop s c path n lengths₀ j₀ lengths j = (j ≤ n) × Filling (map (λ r. road-at (sheet-of s c) r .«length_m») (take j path)) lengths₀ lengths j
 
 abbrev μ-loop : tie.MeasureT-loop
 μ-loop s c path n lengths₀ j₀ lengths j = n - j
@@ -23,8 +23,8 @@ mul-r c = omega arith
 shared-slice-read-r : tie.Need-shared-slice-read-r Inv-loop μ-loop
 shared-slice-read-r c = omega arith
 
-metres-requires : tie.Need-metres-requires Inv-loop μ-loop
-metres-requires c κs =
+length-m-requires : tie.Need-length-m-requires Inv-loop μ-loop
+length-m-requires c κs =
     let start = c .before .before .before .before .before .before in
     (start .pre .0, start .pre .3 _ (omega arith))
 
@@ -41,7 +41,7 @@ loop-less : tie.Need-loop-less Inv-loop μ-loop
 loop-less c = omega arith
 
 loop-again : tie.Need-loop-again Inv-loop μ-loop
-loop-again c = (omega arith, map-step _ (c .before .before .before .before .before .before .before .args .path .now) 0 (c .before .before .before .loop .inv .1) (omega arith) (omega arith) (c .metres .ensures))
+loop-again c = (omega arith, map-step _ (c .before .before .before .before .before .before .before .args .path .now) 0 (c .before .before .before .loop .inv .1) (omega arith) (omega arith) (c .length-m .ensures))
 
 same-length : tie.Need-same-length Inv-loop μ-loop
 same-length c = c .before .loop .inv .1 .size
@@ -60,7 +60,7 @@ write-lengths-spec =
     loop-holds
     mul-r
     shared-slice-read-r
-    metres-requires
+    length-m-requires
     mul-lengths
     slice-write-lengths
     add-j

@@ -15,8 +15,8 @@ at-start-requires c κs = search needs
 slice-read-first : tie.Need-slice-read-first
 slice-read-first c = search needs
 
-metres-requires : tie.Need-metres-requires
-metres-requires c κs = (c .before .before .before .before .before .before .before .before .before .before .before .pre .0, c .before .before .before .at-start .ensures .numbers _ (c .before .before .before .at-start .ensures .some-road))
+length-m-requires : tie.Need-length-m-requires
+length-m-requires c κs = (c .before .before .before .before .before .before .before .before .before .before .before .pre .0, c .before .before .before .at-start .ensures .numbers _ (c .before .before .before .at-start .ensures .some-road))
 
 part-of-requires : tie.Need-part-of-requires
 part-of-requires c κs = search needs
@@ -30,8 +30,8 @@ mul-last c = search needs
 slice-read-last : tie.Need-slice-read-last
 slice-read-last c = search needs
 
-metres-requires-2 : tie.Need-metres-requires-2
-metres-requires-2 c κs = (c .before .before .before .before .before .before .before .before .before .before .before .before .before .before .pre .0, c .before .before .before .before .before .before .at-start .ensures .numbers _ (omega (arith, c .before .before .before .before .before .before .at-start .ensures .some-road)))
+length-m-requires-2 : tie.Need-length-m-requires-2
+length-m-requires-2 c κs = (c .before .before .before .before .before .before .before .before .before .before .before .before .before .before .pre .0, c .before .before .before .before .before .before .at-start .ensures .numbers _ (omega (arith, c .before .before .before .before .before .before .at-start .ensures .some-road)))
 
 part-of-requires-2 : tie.Need-part-of-requires-2
 part-of-requires-2 c κs = search needs
@@ -41,7 +41,7 @@ same-length c = search needs
 
 returns : tie.Need-returns
 returns c = finished _ _ _ _ _ _ _ _ _ _ _ (c .before .before .before .before .before .before .before .before .before .before .before .before .before .before .before .before .pre .2) (c .before .before .before .before .before .before .before .before .before .before .before .before .at-end .ensures) (c .before .before .before .before .before .before .before .before .at-start .ensures) (c .before .before .before .before .before .before .before .before .at-start .kept .1 .1 .0 ∙ c .before .before .before .before .before .before .before .before .before .before .before .before .at-end .kept .1 .1 .0)
-    (c .before .before .before .part-of .ensures ∙ ap (part-of (c .before .before .before .before .before .before .before .before .at-start .result .offset)) (c .before .before .before .before .metres .ensures)) (c .part-of2 .ensures ∙ ap (part-of (c .before .before .before .before .before .before .before .before .before .before .before .before .at-end .result .offset)) (c .before .metres2 .ensures))
+    (c .before .before .before .part-of .ensures ∙ ap (part-of (c .before .before .before .before .before .before .before .before .at-start .result .offset)) (c .before .before .before .before .length-m .ensures)) (c .part-of2 .ensures ∙ ap (part-of (c .before .before .before .before .before .before .before .before .before .before .before .before .at-end .result .offset)) (c .before .length-m2 .ensures))
 
 pub finalize-path-spec : {M : Type 1} → statement M
 finalize-path-spec =
@@ -50,12 +50,12 @@ finalize-path-spec =
     at-end-requires
     at-start-requires
     slice-read-first
-    metres-requires
+    length-m-requires
     part-of-requires
     sub-last
     mul-last
     slice-read-last
-    metres-requires-2
+    length-m-requires-2
     part-of-requires-2
     same-length
     returns)

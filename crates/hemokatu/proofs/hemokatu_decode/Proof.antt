@@ -6,8 +6,8 @@ use Rattle.hemokatu.proofs.hemokatu_decode.Tie as tie
 decode-requires : tie.Need-decode-requires
 decode-requires c κs = search needs
 
-face-requires : tie.Need-face-requires
-face-requires c κs = search needs
+exported-requires : tie.Need-exported-requires
+exported-requires c κs = search needs
 
 same-length : tie.Need-same-length
 same-length c = c .before .before .before .before .before .before .before .before .before .before .before .before .before .before .before .before .before .decode .kept .1 .0
@@ -34,14 +34,14 @@ same-length-8 : tie.Need-same-length-8
 same-length-8 c = c .before .before .before .before .before .before .before .before .before .before .before .before .before .before .before .before .before .decode .kept .1 .1 .1 .1 .1 .1 .1 .1 .0
 
 returns : tie.Need-returns
-returns c = handed _ _ _ _ _ (c .face .ensures) (c .before .before .before .before .before .before .before .before .before .before .before .before .before .before .before .before .before .decode .ensures)
+returns c = handed _ _ _ _ _ (c .exported .ensures) (c .before .before .before .before .before .before .before .before .before .before .before .before .before .before .before .before .before .decode .ensures)
 
 pub hemokatu-decode-spec : {M : Type 1} → statement M
 hemokatu-decode-spec =
     tie.close
     (tie.spec
     decode-requires
-    face-requires
+    exported-requires
     same-length
     same-length-2
     same-length-3

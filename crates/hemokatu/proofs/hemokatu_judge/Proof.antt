@@ -1,4 +1,4 @@
-use Rattle.hemokatu.specs.Face.{judgement-of}
+use Rattle.hemokatu.specs.Exported.{judgement-of}
 use borrow.Author.Needs.{needs}
 use Rattle.hemokatu.proofs.hemokatu_judge.Statement.{statement}
 use Rattle.hemokatu.proofs.hemokatu_judge.Tie as tie

@@ -1,4 +1,4 @@
-use Rattle.hemokatu.specs.Face.{sizes-of}
+use Rattle.hemokatu.specs.Exported.{sizes-of}
 use Rattle.answers.proofs.Refusal.{most-fits}
 use borrow.Author.Tests.{le-leb, lt-leb}
 use native.Mathlib.Omega.{arith}

@@ -2,7 +2,6 @@ use Rattle.legs.proofs.Ending.{best-there, best-remembers, best-missing
 use Rattle.legs.proofs.best_or_none.Statement.{statement}
 use Rattle.legs.proofs.best_or_none.Tie as tie
 use Rattle.legs.proofs.best_or_none.Reads as reads
-use Rattle.legs.proofs.best_or_none.Lts as lts
 
 -- src/lib.rt:40:9
 returns : tie.Need-returns
@@ -10,7 +9,7 @@ returns c = (best-there (c .before .before .args .best) (c .before .if1 .taken),
 
 -- src/lib.rt:34:1
 returns-2 : tie.Need-returns-2
-returns-2 c = (best-missing (c .before .args .best) (c .if1 .left), λ seek n h. missing-remembers seek n)
+returns-2 c = (best-missing (c .before .args .best) (c .if1 .left), λ search n h. missing-remembers search n)
 
 pub best-or-none-spec : {M : Type 1} → statement M
 best-or-none-spec = tie.close (tie.spec returns returns-2)

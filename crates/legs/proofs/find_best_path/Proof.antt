@@ -2,7 +2,7 @@ use Rattle.search.proofs.Halves.{areas-same}
 use Rattle.search.proofs.Growth.{sized-on}
 use Rattle.legs.proofs.InOrder.{ten-pairs}
 use Rattle.legs.proofs.Ending.{outright, by-pairs, alone-led}
-use Rattle.legs.specs.Found.{seek-at, winner-of, Led}
+use Rattle.legs.specs.Found.{middle-search-at, winner-of, Led}
 use Rattle.plans.specs.Turns.{Remembers}
 use Rattle.rules.specs.declared.Middle.{Middle}
 use Rattle.candidates.specs.Found.{held}
@@ -17,9 +17,8 @@ use borrow.Author.Needs.{needs}
 use Rattle.legs.proofs.find_best_path.Statement.{statement}
 use Rattle.legs.proofs.find_best_path.Tie as tie
 use Rattle.legs.proofs.find_best_path.Reads as reads
-use Rattle.legs.proofs.find_best_path.Lts as lts
 use Rattle.legs.proofs.best_or_none.Reads as best-or-none-reads
-use Rattle.legs.proofs.ended.Reads as ended-reads
+use Rattle.legs.proofs.after_pairs.Reads as ended-reads
 use Rattle.legs.proofs.middle.search_again.Reads as search-again-reads
 use Rattle.legs.proofs.tries.try_pairs.Reads as try-pairs-reads
 use Rattle.legs.proofs.winner.Reads as winner-reads
@@ -42,19 +41,19 @@ best-or-none-requires c κs = search needs
 returns : tie.Need-returns
 returns c = let a = c .before .before .before .before .before .before .before .before .before .args in let p = c .before .before .before .before .before .before .before .before .before .pre .0 in
     let t = sheet-of (a .s .now) (a .c) in
-    let seek = seek-at t (a .slots) (a .b) in
+    let search = middle-search-at t (a .slots) (a .b) in
     let ten = ten-pairs t (a .c) (a .starts) (a .ends) (p .3) (p .4) in
     let same = c .before .before .before .try-same-edge-solution in
-    let alone = c .before .without-middle in
-    (c .best-or-none .ensures .0 seek ∙ outright (a .b) seek (held t (a .starts)) (held t (a .ends)) (same .result) (λ other. same .ensures other ∙ ap (try-same-edge-solution (a .b)) ten) (c .before .before .if1 .taken) (alone .ensures .1 seek), alone-led t (a .c) seek _ (alone .result) (c .best-or-none .result) (alone .ensures .0) (c .best-or-none .ensures .1))
+    let single = c .before .without-middle in
+    (c .best-or-none .ensures .0 search ∙ outright (a .b) search (held t (a .starts)) (held t (a .ends)) (same .result) (λ other. same .ensures other ∙ ap (try-same-edge-solution (a .b)) ten) (c .before .before .if1 .taken) (single .ensures .1 search), alone-led t (a .c) search _ (single .result) (c .best-or-none .result) (single .ensures .0) (c .best-or-none .ensures .1))
 
 -- src/lib.rt:99:9
 try-pairs-requires : tie.Need-try-pairs-requires
 try-pairs-requires c κs = let p = c .before .before .before .before .before .before .before .before .before .before .before .pre in ((p .0 .0, p .0 .1, p .0 .3, p .0 .4), p .1)
 
 -- src/lib.rt:102:9
-ended-requires : tie.Need-ended-requires
-ended-requires c κs = search needs
+after-pairs-requires : tie.Need-after-pairs-requires
+after-pairs-requires c κs = search needs
 
 -- src/lib.rt:103:9
 winner-requires : tie.Need-winner-requires
@@ -62,10 +61,10 @@ winner-requires c κs = search needs
 
 -- src/lib.rt:104:5
 search-again-requires : tie.Need-search-again-requires
-search-again-requires c κs = let p = c .before .before .before .before .before .before .before .before .before .before .before .before .before .before .before .before .before .before .before .before .before .before .before .before .before .before .pre in let a = c .before .before .before .before .before .before .before .before .before .before .before .before .before .before .before .before .before .before .before .before .before .before .before .before .before .before .args in let t = sheet-of (a .s .now) (a .c) in let seek = seek-at t (a .slots) (a .b) in
+search-again-requires c κs = let p = c .before .before .before .before .before .before .before .before .before .before .before .before .before .before .before .before .before .before .before .before .before .before .before .before .before .before .pre in let a = c .before .before .before .before .before .before .before .before .before .before .before .before .before .before .before .before .before .before .before .before .before .before .before .before .before .before .args in let t = sheet-of (a .s .now) (a .c) in let search = middle-search-at t (a .slots) (a .b) in
     let k = c .before .before .before .before .before .before .before .before .before .before .before .before .before .before .try-pairs .kept .1 .1 .1 .1 .1 .1 in
     let l = c .before .before .before .before .before .before .before .before .before .before .before .before .before .before .try-pairs .last .1 .1 .1 .1 .1 .1 in
-    ((p .0 .0, p .0 .1, subst (Remembers seek (a .c .n)) (sym (c .before .before .before .before .winner .ensures)) (c .before .before .before .before .before .ended .ensures .1 seek (a .c .n) (c .before .before .before .before .before .before .before .before .before .before .before .before .before .before .try-pairs .ensures .1))), (p .1 .0, sized-on (p .1 .1) (areas-same (a .c .n) (a .slots) (a .labels .now) (a .came-from .now) (a .entries .now) (a .links .now) (l .0) (l .1 .0) (l .1 .1 .0) (l .1 .1 .1 .0) 0 0 0 0 (k .0) (k .1 .0) (k .1 .1 .0) (k .1 .1 .1 .0))))
+    ((p .0 .0, p .0 .1, subst (Remembers search (a .c .n)) (sym (c .before .before .before .before .winner .ensures)) (c .before .before .before .before .before .after-pairs .ensures .1 search (a .c .n) (c .before .before .before .before .before .before .before .before .before .before .before .before .before .before .try-pairs .ensures .1))), (p .1 .0, sized-on (p .1 .1) (areas-same (a .c .n) (a .slots) (a .labels .now) (a .came-from .now) (a .entries .now) (a .links .now) (l .0) (l .1 .0) (l .1 .1 .0) (l .1 .1 .1 .0) 0 0 0 0 (k .0) (k .1 .0) (k .1 .1 .0) (k .1 .1 .1 .0))))
 
 -- src/lib.rt:76:1
 same-length : tie.Need-same-length
@@ -87,11 +86,11 @@ same-length-4 c = search needs
 returns-2 : tie.Need-returns-2
 returns-2 c = let a = c .before .before .before .before .before .before .before .before .before .before .before .before .before .before .before .before .before .before .before .before .before .before .before .before .before .before .before .before .before .before .before .before .before .before .before .args in let p = c .before .before .before .before .before .before .before .before .before .before .before .before .before .before .before .before .before .before .before .before .before .before .before .before .before .before .before .before .before .before .before .before .before .before .before .pre .0 in
     let t = sheet-of (a .s .now) (a .c) in
-    let seek = seek-at t (a .slots) (a .b) in
+    let search = middle-search-at t (a .slots) (a .b) in
     let ten = ten-pairs t (a .c) (a .starts) (a .ends) (p .3) (p .4) in
     let same = c .before .before .before .before .before .before .before .before .before .before .before .before .before .before .before .before .before .before .before .before .before .before .before .before .before .before .before .before .before .try-same-edge-solution in
     let came = c .before .before .before .before .before .before .before .before .search-again .last .1 .1 .1 .1 .1 .1 .0 in
-    (c .before .before .before .before .before .before .before .before .before .before .before .before .before .before .ended .ensures .0 seek ∙ by-pairs (a .b) seek (held t (a .starts)) (held t (a .ends)) (same .result) (λ other. same .ensures other ∙ ap (try-same-edge-solution (a .b)) ten) (c .before .before .before .before .before .before .before .before .before .before .before .before .before .before .before .before .before .before .before .before .before .before .before .before .before .before .before .before .if1 .left) (c .before .before .before .before .before .before .before .before .before .before .before .before .before .before .before .before .before .before .before .before .before .before .before .try-pairs .ensures .0 ∙ ap (λ (ps : List Pair). try-pairs (a .b) seek (sort by-sum ps) none) ten), subst (Led t (a .c) seek came) (c .before .before .before .before .before .before .before .before .before .before .before .before .before .winner .ensures) (c .before .before .before .before .before .before .before .before .search-again .ensures))
+    (c .before .before .before .before .before .before .before .before .before .before .before .before .before .before .after-pairs .ensures .0 search ∙ by-pairs (a .b) search (held t (a .starts)) (held t (a .ends)) (same .result) (λ other. same .ensures other ∙ ap (try-same-edge-solution (a .b)) ten) (c .before .before .before .before .before .before .before .before .before .before .before .before .before .before .before .before .before .before .before .before .before .before .before .before .before .before .before .before .if1 .left) (c .before .before .before .before .before .before .before .before .before .before .before .before .before .before .before .before .before .before .before .before .before .before .before .try-pairs .ensures .0 ∙ ap (λ (ps : List Pair). try-pairs (a .b) search (sort by-sum ps) none) ten), subst (Led t (a .c) search came) (c .before .before .before .before .before .before .before .before .before .before .before .before .before .winner .ensures) (c .before .before .before .before .before .before .before .before .search-again .ensures))
 
 pub find-best-path-spec : {M : Type 1} → statement M
 find-best-path-spec =
@@ -102,7 +101,7 @@ find-best-path-spec =
     best-or-none-requires
     returns
     try-pairs-requires
-    ended-requires
+    after-pairs-requires
     winner-requires
     search-again-requires
     same-length

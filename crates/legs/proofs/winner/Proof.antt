@@ -3,7 +3,6 @@ use borrow.Author.Needs.{needs}
 use Rattle.legs.proofs.winner.Statement.{statement}
 use Rattle.legs.proofs.winner.Tie as tie
 use Rattle.legs.proofs.winner.Reads as reads
-use Rattle.legs.proofs.winner.Lts as lts
 
 -- src/lib.rt:69:22
 enum-known-found : tie.Need-enum-known-found

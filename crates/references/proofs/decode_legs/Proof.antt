@@ -1,5 +1,5 @@
 use Rattle.model.specs.Sheet.{sheet-of}
-use Rattle.references.proofs.Ending.{refused-ahead, legs-ahead, ends-as, places}
+use Rattle.references.proofs.Ending.{refused-admission, legs-admitted, ends-as, places}
 use borrow.Author.Needs.{needs}
 use Rattle.references.proofs.decode_legs.Statement.{statement}
 use Rattle.references.proofs.decode_legs.Tie as tie
@@ -7,28 +7,28 @@ use Rattle.references.proofs.decode_legs.Tie as tie
 settings-requires : tie.Need-settings-requires
 settings-requires c κs = search needs
 
-look-ahead-requires : tie.Need-look-ahead-requires
-look-ahead-requires c κs = c .before .before .before .before .before .before .before .before .before .pre .0
+admit-requires : tie.Need-admit-requires
+admit-requires c κs = c .before .before .before .before .before .before .before .before .before .pre .0
 
-enum-known-ahead : tie.Need-enum-known-ahead
-enum-known-ahead c = search needs
+enum-known-admission : tie.Need-enum-known-admission
+enum-known-admission c = search needs
 
-enum-known-ahead-2 : tie.Need-enum-known-ahead-2
-enum-known-ahead-2 c = search needs
+enum-known-admission-2 : tie.Need-enum-known-admission-2
+enum-known-admission-2 c = search needs
 
 walk-legs-requires : tie.Need-walk-legs-requires
 walk-legs-requires c κs = let a = c .before .before .before .before .before .before .before .before .before .before .before .before .before .before .before .before .before .before .before .before .args in
     let p = c .before .before .before .before .before .before .before .before .before .before .before .before .before .before .before .before .before .before .before .before .pre in
-    let ahead = legs-ahead (sheet-of (a .s .now) (a .c)) (a .c) (c .before .before .before .before .before .before .before .before .before .before .look-ahead .result) (c .before .before .before .before .before .before .before .before .before .before .look-ahead .ensures) _ (c .before .before .before .before .before .before .before .before .ahead2 .given .1) in
+    let ahead = legs-admitted (sheet-of (a .s .now) (a .c)) (a .c) (c .before .before .before .before .before .before .before .before .before .before .admit .result) (c .before .before .before .before .before .before .before .before .before .before .admit .ensures) _ (c .before .before .before .before .before .before .before .before .admission2 .given .1) in
     ((p .0, c .before .before .before .before .before .before .before .before .before .before .before .settings .ensures, ahead .1, ahead .0, ahead .2), p .1)
 
-ended-requires : tie.Need-ended-requires
-ended-requires c κs = let a = c .before .before .before .before .before .before .before .before .before .before .before .before .before .before .before .before .before .before .before .before .before .before .before .before .before .before .before .before .before .before .before .before .before .before .before .args in
+outcome-of-requires : tie.Need-outcome-of-requires
+outcome-of-requires c κs = let a = c .before .before .before .before .before .before .before .before .before .before .before .before .before .before .before .before .before .before .before .before .before .before .before .before .before .before .before .before .before .before .before .before .before .before .before .args in
     places (sheet-of (a .s .now) (a .c)) (a .c) (c .before .before .before .before .before .before .before .before .before .before .before .before .before .before .before .before .before .before .before .before .before .before .before .before .before .before .before .before .before .before .before .before .before .before .before .pre .0 .sound .small .p) _ _ _ _ _ _ (c .before .before .before .before .before .before .before .before .before .before .before .before .before .before .walk-legs .ensures)
 
 returns : tie.Need-returns
 returns c = let a = c .before .before .before .before .before .before .before .before .before .before .before .before .before .args in
-    refused-ahead (sheet-of (a .s .now) (a .c)) (a .c) (c .before .before .before .look-ahead .result) (c .before .before .before .look-ahead .ensures) _ _ (c .before .ahead .given .1) (a .slots) _ _ _
+    refused-admission (sheet-of (a .s .now) (a .c)) (a .c) (c .before .before .before .admit .result) (c .before .before .before .admit .ensures) _ _ (c .before .admission .given .1) (a .slots) _ _ _
 
 same-length : tie.Need-same-length
 same-length c = search needs
@@ -54,19 +54,19 @@ same-length-7 c = search needs
 returns-2 : tie.Need-returns-2
 returns-2 c = let a = c .before .before .before .before .before .before .before .before .before .before .before .before .before .before .before .before .before .before .before .before .before .before .before .before .before .before .before .before .before .before .before .before .before .before .before .before .args in
     let t = sheet-of (a .s .now) (a .c) in
-    let ahead = legs-ahead t (a .c) (c .before .before .before .before .before .before .before .before .before .before .before .before .before .before .before .before .before .before .before .before .before .before .before .before .before .before .look-ahead .result) (c .before .before .before .before .before .before .before .before .before .before .before .before .before .before .before .before .before .before .before .before .before .before .before .before .before .before .look-ahead .ensures) _ (c .before .before .before .before .before .before .before .before .before .before .before .before .before .before .before .before .before .before .before .before .before .before .before .before .ahead2 .given .1) in
-    c .ended .ensures t (a .c) _ _ _ _ (ahead .0) (ends-as t (a .c) _ _ _ _ _ _ _ (c .before .before .before .before .before .before .before .before .before .before .before .before .before .before .before .walk-legs .ensures) (ahead .3 (a .slots)))
+    let ahead = legs-admitted t (a .c) (c .before .before .before .before .before .before .before .before .before .before .before .before .before .before .before .before .before .before .before .before .before .before .before .before .before .before .admit .result) (c .before .before .before .before .before .before .before .before .before .before .before .before .before .before .before .before .before .before .before .before .before .before .before .before .before .before .admit .ensures) _ (c .before .before .before .before .before .before .before .before .before .before .before .before .before .before .before .before .before .before .before .before .before .before .before .before .admission2 .given .1) in
+    c .outcome-of .ensures t (a .c) _ _ _ _ (ahead .0) (ends-as t (a .c) _ _ _ _ _ _ _ (c .before .before .before .before .before .before .before .before .before .before .before .before .before .before .before .walk-legs .ensures) (ahead .3 (a .slots)))
 
 pub decode-legs-spec : {M : Type 1} → statement M
 decode-legs-spec =
     tie.close
     (tie.spec
     settings-requires
-    look-ahead-requires
-    enum-known-ahead
-    enum-known-ahead-2
+    admit-requires
+    enum-known-admission
+    enum-known-admission-2
     walk-legs-requires
-    ended-requires
+    outcome-of-requires
     returns
     same-length
     same-length-2

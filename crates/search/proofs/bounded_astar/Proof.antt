@@ -1,5 +1,5 @@
 use borrow.Author.Needs.{needs}
-use Rattle.search.proofs.Whole.{stands-room, whole, arrives}
+use Rattle.search.proofs.Whole.{state-room, whole, arrives}
 use Rattle.search.proofs.Halves.{halves-length}
 use Rattle.search.specs.Answers.{told, roads-in, Traced}
 use Rattle.search.specs.Areas.{columns}
@@ -11,8 +11,7 @@ use mathlib.Core.Path.{ap, sym, subst, _∙_}
 use Rattle.search.proofs.bounded_astar.Statement.{statement}
 use Rattle.search.proofs.bounded_astar.Tie as tie
 use Rattle.search.proofs.bounded_astar.Reads as reads
-use Rattle.search.proofs.bounded_astar.Lts as lts
-use Rattle.search.proofs.route.search_end.Reads as search-end-reads
+use Rattle.search.proofs.route.end_of_search.Reads as search-end-reads
 use Rattle.search.proofs.search_from_start.Reads as search-from-start-reads
 
 -- src/lib.rt:86:9
@@ -20,12 +19,12 @@ search-from-start-requires : tie.Need-search-from-start-requires
 search-from-start-requires c κs = search needs
 
 -- src/lib.rt:89:9
-search-end-requires : tie.Need-search-end-requires
-search-end-requires c κs = let p = c .before .before .before .before .before .before .before .before .before .before .before .before .before .before .before .before .before .before .before .before .pre in
+end-of-search-requires : tie.Need-end-of-search-requires
+end-of-search-requires c κs = let p = c .before .before .before .before .before .before .before .before .before .before .before .before .before .before .before .before .before .before .before .before .pre in
     let t = c .before .before .before .before .before .before .before .before .before .before .search-from-start .result in
     let l = c .before .before .before .before .before .before .before .before .before .before .search-from-start .last .1 .1 .1 .1 in
     let after = columns (c .before .before .before .before .before .before .before .before .before .before .before .before .before .before .before .before .before .before .before .before .args .c .n) (c .before .before .before .before .before .before .before .before .before .before .before .before .before .before .before .before .before .before .before .before .args .slots) (l .0) (l .1 .0) (l .1 .1 .0) (l .1 .1 .1 .0) (t .len) (t .made) in
-    let arrived = arrives _ _ (p .0 .0) (c .before .before .before .before .before .before .before .before .before .before .before .before .before .before .before .before .before .before .before .before .args .ask) _ (p .0 .1) (p .0 .2) (p .1 .0) (p .0 .3) (p .0 .4) (t .progress) after (c .before .before .before .before .before .before .before .before .before .before .search-from-start .ensures .1) (c .before .before .before .before .before .before .before .before .before .before .search-from-start .ensures .0) in
+    let arrived = arrives _ _ (p .0 .0) (c .before .before .before .before .before .before .before .before .before .before .before .before .before .before .before .before .before .before .before .before .args .query) _ (p .0 .1) (p .0 .2) (p .1 .0) (p .0 .3) (p .0 .4) (t .progress) after (c .before .before .before .before .before .before .before .before .before .before .search-from-start .ensures .1) (c .before .before .before .before .before .before .before .before .before .before .search-from-start .ensures .0) in
     (p .0 .0, p .0 .2, omega (arith, c .before .before .before .before .before .before .before .before .before .before .search-from-start .kept .1 .1 .1 .1 .0, p .1 .1 .real, halves-length (c .before .before .before .before .before .before .before .before .before .before .before .before .before .before .before .before .before .before .before .before .args .c .n) (c .before .before .before .before .before .before .before .before .before .before .before .before .before .before .before .before .before .before .before .before .args .labels .now)), arrived)
 
 -- src/lib.rt:70:1
@@ -50,16 +49,16 @@ returns c = let p = c .before .before .before .before .before .before .before .b
     let t = c .before .before .before .before .before .before .before .before .before .before .before .search-from-start .result in
     let l = c .before .before .before .before .before .before .before .before .before .before .before .search-from-start .last .1 .1 .1 .1 in
     let after = columns (c .before .before .before .before .before .before .before .before .before .before .before .before .before .before .before .before .before .before .before .before .before .args .c .n) (c .before .before .before .before .before .before .before .before .before .before .before .before .before .before .before .before .before .before .before .before .before .args .slots) (l .0) (l .1 .0) (l .1 .1 .0) (l .1 .1 .1 .0) (t .len) (t .made) in
-    let is = whole _ _ (p .0 .0) (c .before .before .before .before .before .before .before .before .before .before .before .before .before .before .before .before .before .before .before .before .before .args .ask) _ (p .0 .1) (p .0 .2) (p .1 .0) (p .0 .3) (p .0 .4) (t .progress) after (c .before .before .before .before .before .before .before .before .before .before .before .search-from-start .ensures .1) in
-    let end = c .search-end in
-    (end .ensures .0 ∙ ap told is, (stands-room _ _ _ _ (t .progress) after (c .before .before .before .before .before .before .before .before .before .before .before .search-from-start .ensures .0), subst (λ (way : List Road). Traced (sheet-of (c .before .before .before .before .before .before .before .before .before .before .before .before .before .before .before .before .before .before .before .before .before .args .s .now) (c .before .before .before .before .before .before .before .before .before .before .before .before .before .before .before .before .before .before .before .before .before .args .c)) (c .before .before .before .before .before .before .before .before .before .before .before .before .before .before .before .before .before .before .before .before .before .args .c) (c .before .before .before .before .before .before .before .before .before .before .before .before .before .before .before .before .before .before .before .before .before .args .ask .goal) (l .1 .0) (end .result) way) (ap roads-in is) (end .ensures .1)))
+    let is = whole _ _ (p .0 .0) (c .before .before .before .before .before .before .before .before .before .before .before .before .before .before .before .before .before .before .before .before .before .args .query) _ (p .0 .1) (p .0 .2) (p .1 .0) (p .0 .3) (p .0 .4) (t .progress) after (c .before .before .before .before .before .before .before .before .before .before .before .search-from-start .ensures .1) in
+    let end = c .end-of-search in
+    (end .ensures .0 ∙ ap told is, (state-room _ _ _ _ (t .progress) after (c .before .before .before .before .before .before .before .before .before .before .before .search-from-start .ensures .0), subst (λ (way : List Road). Traced (sheet-of (c .before .before .before .before .before .before .before .before .before .before .before .before .before .before .before .before .before .before .before .before .before .args .s .now) (c .before .before .before .before .before .before .before .before .before .before .before .before .before .before .before .before .before .before .before .before .before .args .c)) (c .before .before .before .before .before .before .before .before .before .before .before .before .before .before .before .before .before .before .before .before .before .args .c) (c .before .before .before .before .before .before .before .before .before .before .before .before .before .before .before .before .before .before .before .before .before .args .query .goal) (l .1 .0) (end .result) way) (ap roads-in is) (end .ensures .1)))
 
 pub bounded-astar-spec : {M : Type 1} → statement M
 bounded-astar-spec =
     tie.close
     (tie.spec
     search-from-start-requires
-    search-end-requires
+    end-of-search-requires
     same-length
     same-length-2
     same-length-3

@@ -2,16 +2,16 @@ use mathlib.Core.Path.{sym, ap, _∙_}
 use borrow.Author.Needs.{needs}
 use Rattle.model.specs.Sheet.{sheet-of, road-at}
 use Rattle.model.specs.Search.{run, search-within}
-use Rattle.search.specs.Ask.{asked}
-use Rattle.search.proofs.Whole.{asked-nodes}
+use Rattle.search.specs.Query.{query-on}
+use Rattle.search.proofs.Whole.{query-nodes}
 use Rattle.search.proofs.search_from_start.Statement.{statement}
 use Rattle.search.proofs.search_from_start.Tie as tie
 
 goal-row-requires : tie.Need-goal-row-requires
 goal-row-requires c κs = search needs
 
-ahead-requires : tie.Need-ahead-requires
-ahead-requires c κs = search needs
+heuristic-requires : tie.Need-heuristic-requires
+heuristic-requires c κs = search needs
 
 prepare-requires : tie.Need-prepare-requires
 prepare-requires c κs =
@@ -43,12 +43,12 @@ unfolding search-within
 returns c =
     let start = c .before .before .before .before .before .before .before .before .before .before .before .before .before .before .before .before .before .before .before .before .before .before .before .before .before .before .before .before .before .before .before .before .before in
     let prepare = c .before .before .before .before .before .before .before .before .before .before .before .before .before .before .before .before .before .before .before .before .before .prepare in
-    let ahead = c .before .before .before .before .before .before .before .before .before .before .before .before .before .before .before .before .before .before .before .before .before .before .before .before .before .before .ahead in
+    let heuristic = c .before .before .before .before .before .before .before .before .before .before .before .before .before .before .before .before .before .before .before .before .before .before .before .before .before .before .heuristic in
     let run-search = c .before .before .before .before .before .before .before .before .run-search in
     let a = start .args in
     let t = sheet-of (a .s .now) (a .c) in
-    let q = asked t (a .ask) in
-    let begun = prepare .ensures .0 (road-at t) q (asked-nodes (a .s .now) (a .c) (a .ask)) (sym (ahead .ensures)) in
+    let q = query-on t (a .query) in
+    let begun = prepare .ensures .0 (road-at t) q (query-nodes (a .s .now) (a .c) (a .query)) (sym (heuristic .ensures)) in
     (run-search .ensures .0, λ steps. run-search .ensures .1 steps ∙ ap (run steps (a .slots) (a .slots) q) begun)
 
 pub search-from-start-spec : {M : Type 1} → statement M
@@ -56,7 +56,7 @@ search-from-start-spec =
     tie.close
     (tie.spec
     goal-row-requires
-    ahead-requires
+    heuristic-requires
     prepare-requires
     run-search-requires
     same-length

@@ -1,5 +1,5 @@
 use Rattle.candidates.proofs.Rules.{nearer, not-nearer}
-use Rattle.candidates.specs.Near.{least-of}
+use Rattle.candidates.specs.Nearest.{least-of}
 use Rattle.model.specs.Lists.{fold}
 use Rattle.model.specs.Numbers.{fmin, infinity}
 use lib.ListN.{take}

@@ -3,7 +3,7 @@ use Rattle.candidates.proofs.Gathered.{sorted-all}
 use Rattle.candidates.proofs.Distances.{least-begin, least-none, least-nearer, least-kept}
 use Rattle.model.specs.Candidates.{Candidate, better}
 use Rattle.candidates.proofs.Insertion.{length-insert}
-use Rattle.candidates.specs.Near.{Alike}
+use Rattle.candidates.specs.Nearest.{EqualAmounts}
 use Rattle.candidates.proofs.Gathered.{sorted, sorted-none, sorted-some, sorted-few, row-candidate, row-kept, row-dropped}
 use Rattle.model.proofs.RowSums.{rows-within}
 use Rattle.model.specs.Candidates.{candidate-of, nearest}
@@ -19,7 +19,7 @@ use Rattle.candidates.proofs.closest.look.Tie as tie
 
 abbrev Inv-loop : tie.InvT-loop
 Inv-loop s c set i first p all passing₀ least₀ k₀ passing least k =
-    (k ≤ all) × (passing ≡ length (sorted (row-candidate s c i) k)) × Alike least (nearest (sorted (row-candidate s c i) k))
+    (k ≤ all) × (passing ≡ length (sorted (row-candidate s c i) k)) × EqualAmounts least (nearest (sorted (row-candidate s c i) k))
 
 abbrev μ-loop : tie.MeasureT-loop
 μ-loop s c set i first p all passing₀ least₀ k₀ passing least k =
@@ -67,7 +67,7 @@ loop-again c = let a = c .before .before .before .before .before .loop in let st
     let kept = row-kept b n i (a .k) (st .args .set) (c .before .before .before .before .before .before .before .before .point .result) (st .args .first) (c .before .before .before .row .result) (c .before .before .road .result) (p .2) (c .before .before .before .before .before .before .before .before .point .ensures .0) (p .3) (c .before .before .before .row .ensures .0) (c .before .before .road .ensures .0) in
     let dropped = row-dropped b n i (a .k) (st .args .set) (c .before .before .before .before .before .before .before .before .point .result) (st .args .first) (c .before .before .before .row .result) (c .before .before .road .result) (p .2) (c .before .before .before .before .before .before .before .before .point .ensures .0) (p .3) (c .before .before .before .row .ensures .0) (c .before .before .road .ensures .0) in
     let passed = sym (c .before .passes .ensures) in
-    let again : a .k + 1 ≤ c .before .before .before .before .before .before .before .row-count .result = omega (arith, c .before .before .before .before .loop-test .taken) in
+    let next : a .k + 1 ≤ c .before .before .before .before .before .before .before .row-count .result = omega (arith, c .before .before .before .before .loop-test .taken) in
     let more : (x : Candidate) → row-candidate b n i (a .k) ≡ some x → c .if1 .passing ≡ a .passing + 1 → c .if1 .passing ≡ length (sorted (row-candidate b n i) (a .k + 1)) =
     λ x e f. omega (arith, f, a .inv .1, ap length (sorted-some (row-candidate b n i) (a .k) x e), length-insert better x (sorted (row-candidate b n i) (a .k))) in
     let near = least-nearer b n i (p .1) (p .0) (a .k) l (a .least) (a .inv .2) in
@@ -75,20 +75,20 @@ loop-again c = let a = c .before .before .before .before .before .loop in let st
     ⊎-elim
     (λ w.
     let f : c .if1 .passing ≡ a .passing + 1 = w .3 in
-    let g : c .if1 .least ≡ c .before .before .before .row .result .distance = w .4 in
+    let g : c .if1 .least ≡ c .before .before .before .row .result .«distance_m» = w .4 in
     let e = kept (passed ∙ w .0 .taken) in
-    (again, more x e f, rw g (near x e (w .2 .taken))))
+    (next, more x e f, rw g (near x e (w .2 .taken))))
     (λ v. ⊎-elim
     (λ w.
     let f : c .if1 .passing ≡ a .passing + 1 = w .3 in
     let g : c .if1 .least ≡ a .least = w .4 in
     let e = kept (passed ∙ w .0 .taken) in
-    (again, more x e f, rw g (far x e (w .2 .left))))
+    (next, more x e f, rw g (far x e (w .2 .left))))
     (λ w.
     let f : c .if1 .passing ≡ a .passing = w .1 in
     let g : c .if1 .least ≡ a .least = w .2 in
     let e = dropped (passed ∙ w .0 .left) in
-    (again, f ∙ a .inv .1 ∙ ap length (sym (sorted-none _ (a .k) e)), rw g (least-none b n i (p .1) (p .0) (a .k) l (a .least) (a .inv .2) e)))
+    (next, f ∙ a .inv .1 ∙ ap length (sym (sorted-none _ (a .k) e)), rw g (least-none b n i (p .1) (p .0) (a .k) l (a .least) (a .inv .2) e)))
     v)
     (c .if1 .came)
 

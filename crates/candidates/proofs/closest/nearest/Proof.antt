@@ -1,7 +1,7 @@
 use Rattle.candidates.proofs.Rules.{all-kept, best-kept}
 use Rattle.candidates.proofs.Pointwise.{away-amount}
 use Rattle.candidates.proofs.Distances.{alike}
-use Rattle.sheet.proofs.Stops.{candidates-few}
+use Rattle.sheet.proofs.MeasuredPoints.{candidates-few}
 use Rattle.model.specs.Sheet.{sheet-of}
 use Rattle.model.specs.declared.Settings.{Settings}
 use native.Mathlib.Omega.{arith}

@@ -1,6 +1,6 @@
 use Rattle.candidates.proofs.Best.{Front, front-none, front-dropped, front-kept, in-order}
 use Rattle.candidates.proofs.Insertion.{Shifting, shifting-none, shifting-more, put-there}
-use Rattle.candidates.specs.Near.{away, no-away}
+use Rattle.candidates.specs.Nearest.{away, no-away}
 use Rattle.candidates.specs.declared.closest.Away.{Away}
 use lib.ListN.{length-set}
 use borrow.Author.Tests.{not-true, not-false}
@@ -54,8 +54,8 @@ road-requires c κs = (c .before .before .before .before .before .before .pre .0
 passes-requires : tie.Need-passes-requires Inv-shift μ-shift Inv-loop μ-loop
 passes-requires c κs = (c .before .before .before .before .before .point .ensures .2, c .road .ensures .3)
 
-score-of-requires : tie.Need-score-of-requires Inv-shift μ-shift Inv-loop μ-loop
-score-of-requires c κs = (c .before .before .before .before .before .before .before .point .ensures .2, c .before .before .road .ensures .3)
+candidate-score-requires : tie.Need-candidate-score-requires Inv-shift μ-shift Inv-loop μ-loop
+candidate-score-requires c κs = (c .before .before .before .before .before .before .before .point .ensures .2, c .before .before .road .ensures .3)
 
 shift-holds : tie.Need-shift-holds Inv-shift μ-shift Inv-loop μ-loop
 shift-holds c = let l : c .before .before .before .before .before .before .loop .count < 64 = omega (arith, c .before .before .before .before .before .before .loop .inv .2, c .before .before .before .before .before .loop-test .taken, c .before .before .before .before .before .before .before .row-count .ensures .1) in (shifting-none _ _ _ _ _ (omega (arith, c .before .before .before .before .before .before .loop .inv .1)), c .before .before .before .before .before .before .loop .inv .1, l)
@@ -107,15 +107,15 @@ loop-again c = let a = c .before .before .before .before .before .loop in let st
     let kept = row-kept b n i (a .k) (st .args .set) (c .before .before .before .before .before .before .before .point .result) (st .args .first) (c .before .before .before .row .result) (c .before .before .road .result) (p .2) (c .before .before .before .before .before .before .before .point .ensures .0) (p .3) (c .before .before .before .row .ensures .0) (c .before .before .road .ensures .0) in
     let dropped = row-dropped b n i (a .k) (st .args .set) (c .before .before .before .before .before .before .before .point .result) (st .args .first) (c .before .before .before .row .result) (c .before .before .road .result) (p .2) (c .before .before .before .before .before .before .before .point .ensures .0) (p .3) (c .before .before .before .row .ensures .0) (c .before .before .road .ensures .0) in
     let passed = sym (c .before .passes .ensures) in
-    let again : a .k + 1 ≤ c .before .before .before .before .before .before .row-count .result = omega (arith, c .before .before .before .before .loop-test .taken) in
+    let next : a .k + 1 ≤ c .before .before .before .before .before .before .row-count .result = omega (arith, c .before .before .before .before .loop-test .taken) in
     ⊎-elim
     (λ w.
     let e : c .if1 .items ≡ _ = w .4 in
     let f : c .if1 .count ≡ a .count + 1 = w .5 in
     let s = w .2 .inv in
-    let is : record { score = w .1 .result; distance = c .before .before .before .row .result .distance } ≡ away x = rw (w .1 .ensures) in
+    let is : record { score = w .1 .result; distance = c .before .before .before .row .result .«distance_m» } ≡ away x = rw (w .1 .ensures) in
     let put = put-there _ _ _ _ _ (omega (arith, s .1, s .2)) (w .2 .items) (w .2 .j) (s .0) (λ g. ⊎-elim (λ v. absurd (let n = v .left in omega arith)) (λ v. not-true _ (v .4 .taken)) (w .3 .came)) in (
-      again,
+      next,
       ap length e ∙ simp length-set (s .0 .moved .long ∙ s .1),
       omega (arith, f, a .inv .2),
       rw (e, f) (front-kept b n i (p .1) (p .0) away (λ (y : Away). y .score) (λ y. refl) no-away 64 (a .k) (a .count) l (a .items) (a .inv .3) x (kept (passed ∙ w .0 .taken)) _ is (a .count) (inl (s .2, refl)) _ put),
@@ -123,7 +123,7 @@ loop-again c = let a = c .before .before .before .before .before .loop in let st
     (λ w.
     let e : c .if1 .items ≡ a .items = w .1 in
     let f : c .if1 .count ≡ a .count = w .2 in (
-      again,
+      next,
       ap length e ∙ a .inv .1,
       omega (arith, f, a .inv .2),
       rw (e, f) (front-dropped b n i (p .1) (p .0) away (λ (y : Away). y .score) (λ y. refl) no-away 64 (a .k) (a .count) l (a .items) (a .inv .3) (dropped (passed ∙ w .0 .left))),
@@ -148,7 +148,7 @@ order-rows-spec =
     row-requires
     road-requires
     passes-requires
-    score-of-requires
+    candidate-score-requires
     shift-holds
     sub-y
     mul-y

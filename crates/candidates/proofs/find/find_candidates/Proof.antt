@@ -10,7 +10,7 @@ use Rattle.candidates.proofs.Best.{Front, front-none, front-dropped, fr
 use Rattle.candidates.proofs.Insertion.{Shifting, shifting-none, shifting-more, put-there}
 use Rattle.candidates.specs.declared.candidate.Candidate.{Candidate}
 use Rattle.candidates.specs.Found.{by-number, no-item}
-use Rattle.sheet.proofs.Stops.{candidates-few}
+use Rattle.sheet.proofs.MeasuredPoints.{candidates-few}
 use Rattle.model.proofs.RowSums.{rows-within}
 use lib.ListN.{length}
 use borrow.Author.Tests.{not-true, not-false}
@@ -126,7 +126,7 @@ loop-less c = omega arith
 
 loop-again : tie.Need-loop-again Inv-shift μ-shift Inv-loop μ-loop
 loop-again c = let a = c .before .before .before .before .before .loop in let st = c .before .before .before .before .before .before .before .before .before .before .before .before .before .before in let p = st .pre in let b = st .args .s .now in let n = st .args .c in let i = st .args .i in let w' = c .before .before .before .row in let r = c .before .before .road in let most = c .before .before .before .before .before .before .before .before .before .before .tried .result in
-    let again : a .k + 1 ≤ c .before .before .before .before .before .before .row-count .result = omega (arith, c .before .before .before .before .loop-test .taken) in
+    let next : a .k + 1 ≤ c .before .before .before .before .before .before .row-count .result = omega (arith, c .before .before .before .before .loop-test .taken) in
     let l : a .k < row-count b i = omega (arith, c .before .before .before .before .before .before .row-count .ensures .0) in
     let x = candidate-of (st .args .set) (c .before .before .before .before .before .before .before .before .point .result) (record { row = w' .result; road = r .result }) in
     let kept = row-kept b n i (a .k) (st .args .set) (c .before .before .before .before .before .before .before .before .point .result) (c .before .before .before .before .before .before .before .first-row .result) (w' .result) (r .result) (p .2) (c .before .before .before .before .before .before .before .before .point .ensures .0) (c .before .before .before .before .before .before .before .first-row .ensures .0) (w' .ensures .0) (r .ensures .0) in
@@ -141,7 +141,7 @@ loop-again c = let a = c .before .before .before .before .before .loop in let st
     (⊎-elim (λ v. inl (v .0 .taken, v .1)) (λ v. inr (v .0 .left, v .1)) (w .2 .came))
     (⊎-elim (λ v. inl (v .taken)) (λ v. inr (v .3 .taken)) (w .5 .came)) in
     let put = put-there _ _ _ _ _ (omega (arith, s .1, s .2)) (w .6 .items) (w .6 .j) (s .0) (λ g. ⊎-elim (λ v. absurd (let n = v .left in omega arith)) (λ v. not-true _ (v .5 .taken)) (w .7 .came)) in (
-      again,
+      next,
       ap length e ∙ simp length-set (s .0 .moved .long ∙ s .1),
       ⊎-elim (λ v. omega (arith, v .0, v .1)) (λ v. omega (arith, v .1)) room,
       rw (e, f) (front-kept b n i (p .1) (p .0) by-number (λ (y : Candidate). y .score) (λ y. refl) no-item most (a .k) (a .count) l (a .items) (a .inv .3) x (kept (passed ∙ w .0 .taken)) (w .1 .result) (w .1 .ensures) (w .2 .stay) room _ put),
@@ -152,7 +152,7 @@ loop-again c = let a = c .before .before .before .before .before .loop in let st
     let f : c .if2 .count ≡ a .count = w .10 in
     let full : a .count ≡ most = omega (arith, a .inv .2, w .5 .left) in
     let stay : w .2 .stay ≡ most - 1 = ⊎-elim (λ v. absurd (omega (arith, v .0 .taken, w .5 .left))) (λ v. v .1) (w .2 .came) in (
-      again,
+      next,
       ap length e ∙ a .inv .1,
       omega arith,
       rw (e, f) (front-full b n i (p .1) (p .0) by-number (λ (y : Candidate). y .score) (λ y. refl) no-item most (a .k) (a .count) l (a .items) (a .inv .3) x (kept (passed ∙ w .0 .taken)) (w .1 .result) (w .1 .ensures) full (c .before .before .before .before .before .before .before .before .before .if1 .taken) (rw stay at (w .8 .left))),
@@ -160,7 +160,7 @@ loop-again c = let a = c .before .before .before .before .before .loop in let st
     (λ w.
     let e : c .if2 .items ≡ a .items = w .1 in
     let f : c .if2 .count ≡ a .count = w .2 in (
-      again,
+      next,
       ap length e ∙ a .inv .1,
       omega arith,
       rw (e, f) (front-dropped b n i (p .1) (p .0) by-number (λ (y : Candidate). y .score) (λ y. refl) no-item most (a .k) (a .count) l (a .items) (a .inv .3) (dropped (passed ∙ w .0 .left))),

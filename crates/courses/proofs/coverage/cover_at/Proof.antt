@@ -15,11 +15,11 @@ mul-road c = search needs
 shared-slice-read-road : tie.Need-shared-slice-read-road
 shared-slice-read-road c = search needs
 
-metres-requires : tie.Need-metres-requires
-metres-requires c κs = let s = c .before .before .before .before .before .before .before in (s .pre .0, s .pre .1 .numbers _ (c .before .if2 .taken))
+length-m-requires : tie.Need-length-m-requires
+length-m-requires c κs = let s = c .before .before .before .before .before .before .before in (s .pre .0, s .pre .1 .numbers _ (c .before .if2 .taken))
 
 returns-2 : tie.Need-returns-2
-returns-2 c = let s = c .before .before .before .before .before .before .before .before in cover-middle (s .pre .1) _ _ (c .before .before .before .before .before .terminals .ensures .0) (c .before .before .before .before .if1 .left) (c .before .before .if2 .taken) _ (c .metres .ensures)
+returns-2 c = let s = c .before .before .before .before .before .before .before .before in cover-middle (s .pre .1) _ _ (c .before .before .before .before .before .terminals .ensures .0) (c .before .before .before .before .if1 .left) (c .before .before .if2 .taken) _ (c .length-m .ensures)
 
 returns-3 : tie.Need-returns-3
 returns-3 c = let s = c .before .before .before .before .before .before in cover-last (s .pre .1) _ _ (c .before .before .before .terminals .ensures .0) (c .before .before .if1 .left) (c .if2 .left) (s .pre .2)
@@ -32,6 +32,6 @@ cover-at-spec =
     returns
     mul-road
     shared-slice-read-road
-    metres-requires
+    length-m-requires
     returns-2
     returns-3)

@@ -8,14 +8,14 @@ use Rattle.model.specs.Sheet.{sheet-of}
 use Rattle.model.specs.Lists.{fold}
 use Rattle.courses.proofs.Covering.{covered-more, covered-all}
 use Rattle.courses.proofs.Lookup.{covers-size}
-use Rattle.search.specs.Answers.{Numbers}
+use Rattle.search.specs.Answers.{RoadNumbers}
 use Rattle.courses.specs.Left.{covers, coverages-at, cover-with}
 use Rattle.courses.proofs.coverage.cover_leg.Statement.{statement}
 use Rattle.courses.proofs.coverage.cover_leg.Tie as tie
 
 abbrev Inv-loop : tie.InvT-loop
 Inv-loop s c summed r area covered₀ coverage₀ n0 m n₀ j₀ covered coverage n j =
-    (j ≤ m) × (n ≤ n0 + j) × (length covered ≡ length covered₀) × (length coverage ≡ length coverage₀) × Numbers (c .e) n covered
+    (j ≤ m) × (n ≤ n0 + j) × (length covered ≡ length covered₀) × (length coverage ≡ length coverage₀) × RoadNumbers (c .e) n covered
     × (coverages-at (sheet-of s c) n covered coverage ≡ fold (cover-with summed) (coverages-at (sheet-of s c) n0 covered₀ coverage₀) (take j (covers (sheet-of s c) r area)))
 
 abbrev μ-loop : tie.MeasureT-loop

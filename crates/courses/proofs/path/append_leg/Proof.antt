@@ -12,7 +12,6 @@ use borrow.Author.Needs.{needs}
 use Rattle.courses.proofs.path.append_leg.Statement.{statement}
 use Rattle.courses.proofs.path.append_leg.Tie as tie
 use Rattle.courses.proofs.path.append_leg.Reads as reads
-use Rattle.courses.proofs.path.append_leg.Lts as lts
 use Rattle.courses.proofs.path.last_written.Reads as last-written-reads
 use Rattle.courses.proofs.path.skip_of.Reads as skip-of-reads
 use Rattle.courses.proofs.path.write_leg.Reads as write-leg-reads

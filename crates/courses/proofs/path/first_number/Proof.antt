@@ -7,7 +7,6 @@ use native.Mathlib.Omega.{arith}
 use Rattle.courses.proofs.path.first_number.Statement.{statement}
 use Rattle.courses.proofs.path.first_number.Tie as tie
 use Rattle.courses.proofs.path.first_number.Reads as reads
-use Rattle.courses.proofs.path.first_number.Lts as lts
 use Rattle.search.proofs.route.first_back.Reads as first-back-reads
 
 -- src/path.rt:54:9

@@ -13,7 +13,6 @@ use borrow.Author.Needs.{needs}
 use Rattle.courses.proofs.path.skip_of.Statement.{statement}
 use Rattle.courses.proofs.path.skip_of.Tie as tie
 use Rattle.courses.proofs.path.skip_of.Reads as reads
-use Rattle.courses.proofs.path.skip_of.Lts as lts
 use Rattle.courses.proofs.path.count_roads.Reads as count-roads-reads
 use Rattle.courses.proofs.path.first_number.Reads as first-number-reads
 

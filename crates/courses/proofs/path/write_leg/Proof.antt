@@ -8,7 +8,6 @@ use borrow.Author.Needs.{needs}
 use Rattle.courses.proofs.path.write_leg.Statement.{statement}
 use Rattle.courses.proofs.path.write_leg.Tie as tie
 use Rattle.courses.proofs.path.write_leg.Reads as reads
-use Rattle.courses.proofs.path.write_leg.Lts as lts
 use Rattle.courses.proofs.path.write_middle.Reads as write-middle-reads
 use Rattle.courses.proofs.path.write_terminal.Reads as write-terminal-reads
 

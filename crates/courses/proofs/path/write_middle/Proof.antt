@@ -9,7 +9,6 @@ use borrow.Author.Needs.{needs}
 use Rattle.courses.proofs.path.write_middle.Statement.{statement}
 use Rattle.courses.proofs.path.write_middle.Tie as tie
 use Rattle.courses.proofs.path.write_middle.Reads as reads
-use Rattle.courses.proofs.path.write_middle.Lts as lts
 use Rattle.search.proofs.route.write_back.Reads as write-back-reads
 
 -- src/path.rt:97:9

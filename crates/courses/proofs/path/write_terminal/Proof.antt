@@ -8,7 +8,6 @@ use borrow.Author.Needs.{needs}
 use Rattle.courses.proofs.path.write_terminal.Statement.{statement}
 use Rattle.courses.proofs.path.write_terminal.Tie as tie
 use Rattle.courses.proofs.path.write_terminal.Reads as reads
-use Rattle.courses.proofs.path.write_terminal.Lts as lts
 
 -- src/path.rt:85:9
 slice-write-out : tie.Need-slice-write-out

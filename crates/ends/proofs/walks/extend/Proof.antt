@@ -37,38 +37,38 @@ enum-known-x c = search needs
 enum-told : tie.Need-enum-told Inv-loop μ-loop
 enum-told c = search needs
 
-met-requires : tie.Need-met-requires Inv-loop μ-loop
-met-requires c κs = omega (arith, c .before .before .before .before .before .loop .inv .few, c .before .before .before .before .before .loop .inv .room)
+meets-requires : tie.Need-meets-requires Inv-loop μ-loop
+meets-requires c κs = omega (arith, c .before .before .before .before .before .loop .inv .few, c .before .before .before .before .before .loop .inv .room)
 
 same-length : tie.Need-same-length Inv-loop μ-loop
 same-length c = c .before .before .before .before .before .before .before .loop .inv .size
 
 returns-2 : tie.Need-returns-2 Inv-loop μ-loop
-returns-2 c = dropped _ _ _ _ _ _ _ (c .before .before .before .before .before .before .before .loop .inv) (node-count _ _) (met-again _ _ _ _ _ _ _ (c .before .before .before .before .before .before .before .loop .inv) ((rw (c .before .before .before .before .x .given .1) at (c .before .before .before .before .before .before .forced .ensures)) .0) (c .before .met .ensures) (c .if2 .taken))
+returns-2 c = dropped _ _ _ _ _ _ _ (c .before .before .before .before .before .before .before .loop .inv) (node-count _ _) (met-again _ _ _ _ _ _ _ (c .before .before .before .before .before .before .before .loop .inv) ((rw (c .before .before .before .before .x .given .1) at (c .before .before .before .before .before .before .forced .ensures)) .0) (c .before .meets .ensures) (c .if2 .taken))
 
-metres-requires : tie.Need-metres-requires Inv-loop μ-loop
-metres-requires c κs = (c .before .before .before .before .before .before .before .before .before .before .before .before .pre .0, (rw (c .before .before .before .before .x .given .1) at (c .before .before .before .before .before .before .forced .ensures)) .1)
+length-m-requires : tie.Need-length-m-requires Inv-loop μ-loop
+length-m-requires c κs = (c .before .before .before .before .before .before .before .before .before .before .before .before .pre .0, (rw (c .before .before .before .before .x .given .1) at (c .before .before .before .before .before .before .forced .ensures)) .1)
 
 same-length-2 : tie.Need-same-length-2 Inv-loop μ-loop
 same-length-2 c = c .before .before .before .before .before .before .before .before .before .loop .inv .size
 
 returns-3 : tie.Need-returns-3 Inv-loop μ-loop
-returns-3 c = dropped _ _ _ _ _ _ _ (c .before .before .before .before .before .before .before .before .before .loop .inv) (node-count _ _) (too-far _ _ _ _ _ _ _ (c .before .before .before .before .before .before .before .before .before .loop .inv) ((rw (c .before .before .before .before .before .before .x .given .1) at (c .before .before .before .before .before .before .before .before .forced .ensures)) .0) (c .before .before .before .met .ensures) (c .before .before .if2 .left) (c .before .metres .ensures) (c .if3 .taken))
+returns-3 c = dropped _ _ _ _ _ _ _ (c .before .before .before .before .before .before .before .before .before .loop .inv) (node-count _ _) (too-far _ _ _ _ _ _ _ (c .before .before .before .before .before .before .before .before .before .loop .inv) ((rw (c .before .before .before .before .before .before .x .given .1) at (c .before .before .before .before .before .before .before .before .forced .ensures)) .0) (c .before .before .before .meets .ensures) (c .before .before .if2 .left) (c .before .length-m .ensures) (c .if3 .taken))
 
 mul-ids : tie.Need-mul-ids Inv-loop μ-loop
-mul-ids c = omega (arith, has-room _ _ _ _ _ _ _ (c .before .before .before .before .before .before .before .before .before .loop .inv) ((rw (c .before .before .before .before .before .before .x .given .1) at (c .before .before .before .before .before .before .before .before .forced .ensures)) .0) (c .before .before .before .met .ensures) (c .before .before .if2 .left) (c .before .metres .ensures) (well-formed-formed _ _ (c .before .before .before .before .before .before .before .before .before .before .before .before .before .before .pre .0)), c .before .before .before .before .before .before .before .before .before .loop .inv .room, c .before .before .before .before .before .before .before .before .before .loop .inv .size)
+mul-ids c = omega (arith, has-room _ _ _ _ _ _ _ (c .before .before .before .before .before .before .before .before .before .loop .inv) ((rw (c .before .before .before .before .before .before .x .given .1) at (c .before .before .before .before .before .before .before .before .forced .ensures)) .0) (c .before .before .before .meets .ensures) (c .before .before .if2 .left) (c .before .length-m .ensures) (well-formed-formed _ _ (c .before .before .before .before .before .before .before .before .before .before .before .before .before .before .pre .0)), c .before .before .before .before .before .before .before .before .before .loop .inv .room, c .before .before .before .before .before .before .before .before .before .loop .inv .size)
 
 slice-write-ids : tie.Need-slice-write-ids Inv-loop μ-loop
-slice-write-ids c = omega (arith, has-room _ _ _ _ _ _ _ (c .before .before .before .before .before .before .before .before .before .loop .inv) ((rw (c .before .before .before .before .before .before .x .given .1) at (c .before .before .before .before .before .before .before .before .forced .ensures)) .0) (c .before .before .before .met .ensures) (c .before .before .if2 .left) (c .before .metres .ensures) (well-formed-formed _ _ (c .before .before .before .before .before .before .before .before .before .before .before .before .before .before .pre .0)), c .before .before .before .before .before .before .before .before .before .loop .inv .room, c .before .before .before .before .before .before .before .before .before .loop .inv .size)
+slice-write-ids c = omega (arith, has-room _ _ _ _ _ _ _ (c .before .before .before .before .before .before .before .before .before .loop .inv) ((rw (c .before .before .before .before .before .before .x .given .1) at (c .before .before .before .before .before .before .before .before .forced .ensures)) .0) (c .before .before .before .meets .ensures) (c .before .before .if2 .left) (c .before .length-m .ensures) (well-formed-formed _ _ (c .before .before .before .before .before .before .before .before .before .before .before .before .before .before .pre .0)), c .before .before .before .before .before .before .before .before .before .loop .inv .room, c .before .before .before .before .before .before .before .before .before .loop .inv .size)
 
 add-end : tie.Need-add-end Inv-loop μ-loop
-add-end c = omega (arith, has-room _ _ _ _ _ _ _ (c .before .before .before .before .before .before .before .before .before .loop .inv) ((rw (c .before .before .before .before .before .before .x .given .1) at (c .before .before .before .before .before .before .before .before .forced .ensures)) .0) (c .before .before .before .met .ensures) (c .before .before .if2 .left) (c .before .metres .ensures) (well-formed-formed _ _ (c .before .before .before .before .before .before .before .before .before .before .before .before .before .before .pre .0)), c .before .before .before .before .before .before .before .before .before .loop .inv .room, c .before .before .before .before .before .before .before .before .before .loop .inv .size)
+add-end c = omega (arith, has-room _ _ _ _ _ _ _ (c .before .before .before .before .before .before .before .before .before .loop .inv) ((rw (c .before .before .before .before .before .before .x .given .1) at (c .before .before .before .before .before .before .before .before .forced .ensures)) .0) (c .before .before .before .meets .ensures) (c .before .before .if2 .left) (c .before .length-m .ensures) (well-formed-formed _ _ (c .before .before .before .before .before .before .before .before .before .before .before .before .before .before .pre .0)), c .before .before .before .before .before .before .before .before .before .loop .inv .room, c .before .before .before .before .before .before .before .before .before .loop .inv .size)
 
 loop-less : tie.Need-loop-less Inv-loop μ-loop
-loop-less c = omega (arith, has-room _ _ _ _ _ _ _ (c .before .before .before .before .before .before .before .before .before .loop .inv) ((rw (c .before .before .before .before .before .before .x .given .1) at (c .before .before .before .before .before .before .before .before .forced .ensures)) .0) (c .before .before .before .met .ensures) (c .before .before .if2 .left) (c .before .metres .ensures) (well-formed-formed _ _ (c .before .before .before .before .before .before .before .before .before .before .before .before .before .before .pre .0)), c .before .before .before .before .before .before .before .before .before .loop .inv .room, c .before .before .before .before .before .before .before .before .before .loop .inv .size)
+loop-less c = omega (arith, has-room _ _ _ _ _ _ _ (c .before .before .before .before .before .before .before .before .before .loop .inv) ((rw (c .before .before .before .before .before .before .x .given .1) at (c .before .before .before .before .before .before .before .before .forced .ensures)) .0) (c .before .before .before .meets .ensures) (c .before .before .if2 .left) (c .before .length-m .ensures) (well-formed-formed _ _ (c .before .before .before .before .before .before .before .before .before .before .before .before .before .before .pre .0)), c .before .before .before .before .before .before .before .before .before .loop .inv .room, c .before .before .before .before .before .before .before .before .before .loop .inv .size)
 
 loop-again : tie.Need-loop-again Inv-loop μ-loop
-loop-again c = walking-step _ _ _ _ _ _ _ (c .before .before .before .before .before .before .before .before .before .loop .inv) ((rw (c .before .before .before .before .before .before .x .given .1) at (c .before .before .before .before .before .before .before .before .forced .ensures)) .0) (c .before .before .before .met .ensures) (c .before .before .if2 .left) (c .before .metres .ensures) (well-formed-formed _ _ (c .before .before .before .before .before .before .before .before .before .before .before .before .before .before .pre .0)) ((rw (c .before .before .before .before .before .before .x .given .1) at (c .before .before .before .before .before .before .before .before .forced .ensures)) .1) (c .if3 .left)
+loop-again c = walking-step _ _ _ _ _ _ _ (c .before .before .before .before .before .before .before .before .before .loop .inv) ((rw (c .before .before .before .before .before .before .x .given .1) at (c .before .before .before .before .before .before .before .before .forced .ensures)) .0) (c .before .before .before .meets .ensures) (c .before .before .if2 .left) (c .before .length-m .ensures) (well-formed-formed _ _ (c .before .before .before .before .before .before .before .before .before .before .before .before .before .before .pre .0)) ((rw (c .before .before .before .before .before .before .x .given .1) at (c .before .before .before .before .before .before .before .before .forced .ensures)) .1) (c .if3 .left)
 
 same-length-3 : tie.Need-same-length-3 Inv-loop μ-loop
 same-length-3 c = c .before .before .before .before .loop .inv .size
@@ -97,10 +97,10 @@ extend-spec =
     forced-requires
     enum-known-x
     enum-told
-    met-requires
+    meets-requires
     same-length
     returns-2
-    metres-requires
+    length-m-requires
     same-length-2
     returns-3
     mul-ids

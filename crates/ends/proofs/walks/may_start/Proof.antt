@@ -27,11 +27,11 @@ enum-told c = search needs
 returns-2 : tie.Need-returns-2
 returns-2 c = λ e path. no-way-none _ _ _ _ _ (rw (c .enum-told .given .1) at (c .before .before .first-way .ensures))
 
-metres-requires : tie.Need-metres-requires
-metres-requires c κs = (c .before .before .before .before .before .before .before .before .pre .0, (rw (c .before .x .given .1) at (c .before .before .before .first-way .ensures)) .1)
+length-m-requires : tie.Need-length-m-requires
+length-m-requires c κs = (c .before .before .before .before .before .before .before .before .pre .0, (rw (c .before .x .given .1) at (c .before .before .before .first-way .ensures)) .1)
 
 returns-3 : tie.Need-returns-3
-returns-3 c = λ e path. far-none _ _ _ _ _ ((rw (c .before .before .x .given .1) at (c .before .before .before .before .first-way .ensures)) .0) (c .metres .ensures) (not-false _ e)
+returns-3 c = λ e path. far-none _ _ _ _ _ ((rw (c .before .before .x .given .1) at (c .before .before .before .before .first-way .ensures)) .0) (c .length-m .ensures) (not-false _ e)
 
 pub may-start-spec : {M : Type 1} → statement M
 may-start-spec =
@@ -44,5 +44,5 @@ may-start-spec =
     enum-known-x
     enum-told
     returns-2
-    metres-requires
+    length-m-requires
     returns-3)

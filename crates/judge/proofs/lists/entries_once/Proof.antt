@@ -59,8 +59,8 @@ returns-2 c =
     let r = c .before .before .before .before .before .entry in
     let i = c .before .before .before .before .source in
     let p = c .before .before .before .in-part in
-    let again = was-met (entry-of (a .s .now) (a .c)) (a .c .e) (l .marks) (l .j) (l .inv .2) (r .result) (r .ensures .1) (c .if2 .taken) in
-    let bad = entry-met (a .s .now) (a .c) (l .j) (r .result) (i .result) (p .result) (r .ensures .0) (i .ensures .0) (p .ensures) (not-false _ (c .before .before .if1 .left)) again in
+    let next = was-met (entry-of (a .s .now) (a .c)) (a .c .e) (l .marks) (l .j) (l .inv .2) (r .result) (r .ensures .1) (c .if2 .taken) in
+    let bad = entry-met (a .s .now) (a .c) (l .j) (r .result) (i .result) (p .result) (r .ensures .0) (i .ensures .0) (p .ensures) (not-false _ (c .before .before .if1 .left)) next in
     every-bad (entry-good (a .s .now) (a .c)) (l .left) (l .j) (c .before .before .before .before .before .before .loop-test .taken) bad ∙ l .inv .3
 
 slice-write-marks : tie.Need-slice-write-marks Inv-loop μ-loop

@@ -9,7 +9,6 @@ use borrow.Author.Needs.{needs}
 use Rattle.legs.proofs.middle.middle.Statement.{statement}
 use Rattle.legs.proofs.middle.middle.Tie as tie
 use Rattle.legs.proofs.middle.middle.Reads as reads
-use Rattle.legs.proofs.middle.middle.Lts as lts
 use Rattle.legs.proofs.middle.way_between.Reads as way-between-reads
 use Rattle.search.proofs.bounded_astar.Reads as bounded-astar-reads
 
@@ -60,7 +59,7 @@ returns-2 c = let a = c .before .before .before .before .before .before .before 
     let t = sheet-of (a .s .now) (a .c) in
     let is = search-found t (a .slots) (a .b) (a .start) (a .goal) (a .a) (w .result) (w .ensures .0) _ (c .before .before .before .before .before .before .before .before .before .before .before .before .before .before .before .known2 .given .1) in
     let came = x .last .1 .1 .1 .1 .1 .0 in
-    (x .ensures .0 ∙ ap told is, subst (λ (way : List Road). LedBy t (a .c) (a .goal) came (x .result .search) way) (ap roads-in is) (traced-led t (a .c) (a .goal) came (x .result .search) _ (x .ensures .1 .1)))
+    (x .ensures .0 ∙ ap told is, subst (λ (way : List Road). LedBy t (a .c) (a .goal) came (x .result .end) way) (ap roads-in is) (traced-led t (a .c) (a .goal) came (x .result .end) _ (x .ensures .1 .1)))
 
 pub middle-spec : {M : Type 1} → statement M
 middle-spec =

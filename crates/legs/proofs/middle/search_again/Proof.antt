@@ -1,13 +1,12 @@
 use Rattle.legs.proofs.Middles.{led-again}
-use Rattle.plans.specs.Turns.{by-ask}
-use Rattle.legs.specs.Found.{seek-at}
+use Rattle.plans.specs.Turns.{by-need}
+use Rattle.legs.specs.Found.{middle-search-at}
 use Rattle.model.specs.Sheet.{sheet-of}
 use native.Mathlib.Omega.{arith}
 use borrow.Author.Needs.{needs}
 use Rattle.legs.proofs.middle.search_again.Statement.{statement}
 use Rattle.legs.proofs.middle.search_again.Tie as tie
 use Rattle.legs.proofs.middle.search_again.Reads as reads
-use Rattle.legs.proofs.middle.search_again.Lts as lts
 use Rattle.legs.proofs.middle.middle.Reads as middle-reads
 
 -- src/middle.rt:99:9
@@ -32,8 +31,8 @@ same-length-4 c = search needs
 
 -- src/middle.rt:82:1
 returns : tie.Need-returns
-unfolding by-ask
-returns c = let a = c .before .before .before .before .before .before .before .before .before .before .before .before .before .before .before .before .before .before .before .before .args in let t = sheet-of (a .s .now) (a .c) in let x = c .before .before .before .before .before .before .before .before .middle in λ some. led-again t (a .c) (seek-at t (a .slots) (a .b)) (x .last .1 .1 .1 .1 .1 .1 .1 .1 .0) (a .m) (x .result) some (c .before .before .before .before .before .before .before .before .before .before .before .before .before .before .before .before .before .before .before .before .pre .0 .2 some .2) (x .ensures .0) (x .ensures .1)
+unfolding by-need
+returns c = let a = c .before .before .before .before .before .before .before .before .before .before .before .before .before .before .before .before .before .before .before .before .args in let t = sheet-of (a .s .now) (a .c) in let x = c .before .before .before .before .before .before .before .before .middle in λ some. led-again t (a .c) (middle-search-at t (a .slots) (a .b)) (x .last .1 .1 .1 .1 .1 .1 .1 .1 .0) (a .m) (x .result) some (c .before .before .before .before .before .before .before .before .before .before .before .before .before .before .before .before .before .before .before .before .pre .0 .2 some .2) (x .ensures .0) (x .ensures .1)
 
 -- src/middle.rt:82:1
 returns-2 : tie.Need-returns-2

@@ -10,7 +10,7 @@ use Rattle.model.specs.Candidates.{Candidate}
 use Rattle.candidates.proofs.Held.{held-at}
 use Rattle.candidates.specs.Found.{no-candidate, at-road, item-at, held}
 use Rattle.legs.proofs.Going.{Good, good-start, nearer, good-enough, good-turn, good-end}
-use Rattle.legs.specs.Found.{seek-at}
+use Rattle.legs.specs.Found.{middle-search-at}
 use Rattle.search.proofs.Growth.{sized-on, sizes-on}
 use Rattle.search.proofs.Halves.{both-size, areas-same}
 use Rattle.search.specs.Areas.{columns, SameSizes}
@@ -38,7 +38,7 @@ abbrev μ-fill : tie.MeasureT-fill
 abbrev Inv-loop : tie.InvT-loop
 Inv-loop s c b slots labels₀ came-from₀ entries₀ links₀ starts ends count by-start by-end k heads₀ st₀ t₀ labels came-from entries links heads st t =
     SameSizes (columns (c .n) slots labels₀ came-from₀ entries₀ links₀ 0 0) (columns (c .n) slots labels came-from entries links 0 0)
-    × Good b (seek-at (sheet-of s c) slots b) (in-order (sheet-of s c) starts ends) (c .n) (starts .count * ends .count) st t
+    × Good b (middle-search-at (sheet-of s c) slots b) (in-order (sheet-of s c) starts ends) (c .n) (starts .count * ends .count) st t
     × Heads (sheet-of s c) starts ends (starts .count * ends .count) t heads
 
 abbrev μ-loop : tie.MeasureT-loop
@@ -89,7 +89,7 @@ no-best-requires c κs = search needs
 
 loop-holds : tie.Need-loop-holds Inv-fill μ-fill Inv-loop μ-loop
 loop-holds c = let p = c .before .before .before .before .before .before .before .before .pre .0 in let a = c .before .before .before .before .before .before .before .before .args in let t = sheet-of (a .s .now) (a .c) in
-    (record { real = refl; penalised = refl; came = refl; key = refl; cost = refl; node = refl; order = refl }, good-start _ _ _ _ _ (c .no-best .result) (c .no-best .ensures .0) (c .no-best .ensures .1), heads-start t (a .c) (a .t4) (a .t5) (p .2) (p .3))
+    (record { real = refl; penalised = refl; came = refl; f-score = refl; g-score = refl; node = refl; order = refl }, good-start _ _ _ _ _ (c .no-best .result) (c .no-best .ensures .0) (c .no-best .ensures .1), heads-start t (a .c) (a .t4) (a .t5) (p .2) (p .3))
 
 slice-aggregate-next-pair : tie.Need-slice-aggregate-next-pair Inv-fill μ-fill Inv-loop μ-loop
 slice-aggregate-next-pair c = search needs
@@ -126,7 +126,7 @@ same-length-2 : tie.Need-same-length-2 Inv-fill μ-fill Inv-loop μ-loop
 same-length-2 c = c .before .before .before .before .before .before .before .before .before .before .before .before .before .loop .inv .0 .came
 
 same-length-3 : tie.Need-same-length-3 Inv-fill μ-fill Inv-loop μ-loop
-same-length-3 c = both-size (c .before .before .before .before .before .before .before .before .before .before .before .before .before .before .before .before .before .before .before .before .before .before .args .slots) (c .before .before .before .before .before .before .before .before .before .before .before .before .before .before .before .before .before .before .before .before .before .before .args .entries .now) (c .before .before .before .before .before .before .before .before .before .before .before .before .before .loop .entries) (c .before .before .before .before .before .before .before .before .before .before .before .before .before .loop .inv .0 .key) (c .before .before .before .before .before .before .before .before .before .before .before .before .before .loop .inv .0 .cost)
+same-length-3 c = both-size (c .before .before .before .before .before .before .before .before .before .before .before .before .before .before .before .before .before .before .before .before .before .before .args .slots) (c .before .before .before .before .before .before .before .before .before .before .before .before .before .before .before .before .before .before .before .before .before .before .args .entries .now) (c .before .before .before .before .before .before .before .before .before .before .before .before .before .loop .entries) (c .before .before .before .before .before .before .before .before .before .before .before .before .before .loop .inv .0 .f-score) (c .before .before .before .before .before .before .before .before .before .before .before .before .before .loop .inv .0 .g-score)
 
 same-length-4 : tie.Need-same-length-4 Inv-fill μ-fill Inv-loop μ-loop
 same-length-4 c = both-size (c .before .before .before .before .before .before .before .before .before .before .before .before .before .before .before .before .before .before .before .before .before .before .args .slots) (c .before .before .before .before .before .before .before .before .before .before .before .before .before .before .before .before .before .before .before .before .before .before .args .links .now) (c .before .before .before .before .before .before .before .before .before .before .before .before .before .loop .links) (c .before .before .before .before .before .before .before .before .before .before .before .before .before .loop .inv .0 .order) (c .before .before .before .before .before .before .before .before .before .before .before .before .before .loop .inv .0 .node)
@@ -143,8 +143,8 @@ returns c = let p = c .before .before .before .before .before .before .before .b
     is0 ∙ ap (λ (z : Candidate). pair z (getD (held t (a .t5)) j no-candidate) ∷ sort by-sum (left (held t (a .t4)) (held t (a .t5)) (take (a .t4 .count) heads))) (held-at t (a .t4) (p .2 .room) i (c .before .before .before .before .before .before .before .before .next-pair .ensures .0)) ∙ ap (λ (z : Candidate). pair x z ∷ sort by-sum (left (held t (a .t4)) (held t (a .t5)) (take (a .t4 .count) heads))) (held-at t (a .t5) (p .3 .room) j (c .before .before .before .before .before .before .before .before .next-pair .ensures .1)) in
     let ten-heads = c .before .before .before .before .before .before .before .before .next-pair .kept .1 .1 .1 .1 .0 ∙ c .before .before .before .before .before .before .before .before .before .before .before .before .before .loop .inv .2 .long in
     let there = pair-there t (a .c) (a .t4) (a .t5) (p .2) (p .3) (c .before .before .before .before .before .before .before .before .before .before .before .before .before .loop .t) (c .before .before .before .before .before .before .before .before .before .before .before .before .loop-test .taken) (c .before .before .before .before .before .before .before .before .before .before .before .before .before .loop .heads) (c .before .before .before .before .before .before .before .before .before .before .before .before .before .loop .inv .2) x y heads ten-heads is d in
-    let seek = seek-at t (a .slots) (a .b) in
-    let reached : best-score (best-of seek (c .before .before .before .before .before .before .before .before .before .before .before .before .before .loop .st .best)) ≤ᶠ pair x y .sum ≡ true = rw (c .before .before .before .best-score .ensures seek) at (c .if1 .taken) in
+    let search = middle-search-at t (a .slots) (a .b) in
+    let reached : best-score (best-of search (c .before .before .before .before .before .before .before .before .before .before .before .before .before .loop .st .best)) ≤ᶠ pair x y .sum ≡ true = rw (c .before .before .before .best-score .ensures search) at (c .if1 .taken) in
     (good-enough _ _ _ _ _ (order-long t (a .c) (a .t4) (a .t5) (p .2) (p .3)) _ _ (c .before .before .before .before .before .before .before .before .before .before .before .before .before .loop .inv .1) (c .before .before .before .before .before .before .before .before .before .before .before .before .loop-test .taken) (pair x y) d there reached, c .before .before .before .before .before .before .before .before .before .before .before .before .before .loop .inv .1 .remembers)
 
 try-pair-requires : tie.Need-try-pair-requires Inv-fill μ-fill Inv-loop μ-loop
@@ -173,8 +173,8 @@ loop-again c = let p = c .before .before .before .before .before .before .before
     is0 ∙ ap (λ (z : Candidate). pair z (getD (held t (a .t5)) j no-candidate) ∷ sort by-sum (left (held t (a .t4)) (held t (a .t5)) (take (a .t4 .count) heads))) (held-at t (a .t4) (p .2 .room) i (c .before .before .before .before .before .before .before .before .before .before .before .before .before .before .before .before .before .before .before .before .before .before .next-pair .ensures .0)) ∙ ap (λ (z : Candidate). pair x z ∷ sort by-sum (left (held t (a .t4)) (held t (a .t5)) (take (a .t4 .count) heads))) (held-at t (a .t5) (p .3 .room) j (c .before .before .before .before .before .before .before .before .before .before .before .before .before .before .before .before .before .before .before .before .before .before .next-pair .ensures .1)) in
     let ten-heads = c .before .before .before .before .before .before .before .before .before .before .before .before .before .before .before .before .before .before .before .before .before .before .next-pair .kept .1 .1 .1 .1 .0 ∙ c .before .before .before .before .before .before .before .before .before .before .before .before .before .before .before .before .before .before .before .before .before .before .before .before .before .before .before .loop .inv .2 .long in
     let there = pair-there t (a .c) (a .t4) (a .t5) (p .2) (p .3) (c .before .before .before .before .before .before .before .before .before .before .before .before .before .before .before .before .before .before .before .before .before .before .before .before .before .before .before .loop .t) (c .before .before .before .before .before .before .before .before .before .before .before .before .before .before .before .before .before .before .before .before .before .before .before .before .before .before .loop-test .taken) (c .before .before .before .before .before .before .before .before .before .before .before .before .before .before .before .before .before .before .before .before .before .before .before .before .before .before .before .loop .heads) (c .before .before .before .before .before .before .before .before .before .before .before .before .before .before .before .before .before .before .before .before .before .before .before .before .before .before .before .loop .inv .2) x y heads ten-heads is d in
-    let seek = seek-at t (a .slots) (a .b) in
-    let missed : best-score (best-of seek (loop .st .best)) ≤ᶠ pair x y .sum ≡ false = rw (c .before .before .before .before .before .before .before .before .before .before .before .before .before .before .before .before .before .best-score .ensures seek) at (c .before .before .before .before .before .before .before .before .before .before .before .before .before .before .if1 .left) in (
+    let search = middle-search-at t (a .slots) (a .b) in
+    let missed : best-score (best-of search (loop .st .best)) ≤ᶠ pair x y .sum ≡ false = rw (c .before .before .before .before .before .before .before .before .before .before .before .before .before .before .before .before .before .best-score .ensures search) at (c .before .before .before .before .before .before .before .before .before .before .before .before .before .before .if1 .left) in (
       sizes-on (loop .inv .0) (areas-same (a .c .n) (a .slots) (loop .labels) (loop .came-from) (loop .entries) (loop .links) (l .0) (l .1 .0) (l .1 .1 .0) (l .1 .1 .1 .0) 0 0 0 0 (k .0) (k .1 .0) (k .1 .1 .0) (k .1 .1 .1 .0)),
       rw (c .next-place .ensures) (good-turn _ _ _ _ _ long _ _ (loop .inv .1) (c .before .before .before .before .before .before .before .before .before .before .before .before .before .before .before .before .before .before .before .before .before .before .before .before .before .before .loop-test .taken) (pair x y) d there missed (c .before .before .before .before .before .before .before .before .before .try-pair .result) (c .before .before .before .before .before .before .before .before .before .try-pair .ensures .0) (c .before .before .before .before .before .before .before .before .before .try-pair .ensures .1 (loop .inv .1 .remembers))),
       rw (c .next-place .ensures) (heads-next t (a .c) (a .t4) (a .t5) (p .2) (p .3) (loop .t) (c .before .before .before .before .before .before .before .before .before .before .before .before .before .before .before .before .before .before .before .before .before .before .before .before .before .before .loop-test .taken) (loop .heads) (loop .inv .2) x y heads ten-heads is (c .before .before .before .before .before .before .before .before .before .try-pair .result .phase)),
@@ -187,7 +187,7 @@ same-length-6 : tie.Need-same-length-6 Inv-fill μ-fill Inv-loop μ-loop
 same-length-6 c = c .before .loop .inv .0 .came
 
 same-length-7 : tie.Need-same-length-7 Inv-fill μ-fill Inv-loop μ-loop
-same-length-7 c = both-size (c .before .before .before .before .before .before .before .before .before .before .args .slots) (c .before .before .before .before .before .before .before .before .before .before .args .entries .now) (c .before .loop .entries) (c .before .loop .inv .0 .key) (c .before .loop .inv .0 .cost)
+same-length-7 c = both-size (c .before .before .before .before .before .before .before .before .before .before .args .slots) (c .before .before .before .before .before .before .before .before .before .before .args .entries .now) (c .before .loop .entries) (c .before .loop .inv .0 .f-score) (c .before .loop .inv .0 .g-score)
 
 same-length-8 : tie.Need-same-length-8 Inv-fill μ-fill Inv-loop μ-loop
 same-length-8 c = both-size (c .before .before .before .before .before .before .before .before .before .before .args .slots) (c .before .before .before .before .before .before .before .before .before .before .args .links .now) (c .before .loop .links) (c .before .loop .inv .0 .order) (c .before .loop .inv .0 .node)

@@ -1,4 +1,4 @@
-use Rattle.lines.proofs.Leaving.{known-route, known-tail, covers-tail, leaves-route, leaves-none, leaves-full}
+use Rattle.lines.proofs.Leaving.{known-route, known-tail, covers-tail, leg-written-route, leg-written-none, leg-written-full}
 use Rattle.courses.proofs.Lookup.{numbers-size, size-few}
 use Rattle.courses.specs.Left.{middle-numbers, numbers-of, cover-all, coverages-at}
 use Rattle.model.specs.Sheet.{sheet-of}
@@ -11,7 +11,6 @@ use borrow.Author.Needs.{needs}
 use Rattle.lines.proofs.leg.leave.Statement.{statement}
 use Rattle.lines.proofs.leg.leave.Tie as tie
 use Rattle.lines.proofs.leg.leave.Reads as reads
-use Rattle.lines.proofs.leg.leave.Lts as lts
 use Rattle.courses.proofs.coverage.cover_leg.Reads as cover-leg-reads
 use Rattle.courses.proofs.path.append_leg.Reads as append-leg-reads
 use Rattle.courses.proofs.path.count_roads.Reads as count-roads-reads
@@ -101,15 +100,15 @@ returns c = let a = c .before .before .before .before .before .before .before .b
     let known = known-route t (a .c) (a .found) (a .came-from .now) _ (c .before .before .before .before .before .before .before .before .before .before .before .before .before .before .before .before .found .given .1) (p .0 .1) in
     let v = c .before .before .before .before .before .cover-leg .ensures in
     let there = covers-tail t (a .c) _ _ (known .0) (a .ids .now) (a .at) _ _ (c .before .before .before .before .before .before .before .before .before .before .before .before .before .append-leg .ensures) _ (c .before .before .before .before .before .before .before .before .before .before .terminals .ensures .0) in
-    rw (c .count-roads .ensures .0) (leaves-route (a .s .now) (a .c) (a .summed) _ (a .at) (a .ids .now) _ _ _ (a .came-from .now) _ _ _ _ (c .before .before .before .before .before .before .before .before .before .before .before .before .before .before .before .before .found .given .1) (known .0) (c .before .before .before .before .before .before .before .before .before .before .before .before .before .append-leg .result) (c .before .before .before .before .before .cover-leg .result) (c .before .before .before .before .before .before .before .before .before .before .before .before .before .append-leg .ensures) (v .0) (v .1) (v .2 ∙ ap (cover-all (a .summed) (coverages-at t (a .n0) (a .covered .now) (a .coverage .now))) there))
+    rw (c .count-roads .ensures .0) (leg-written-route (a .s .now) (a .c) (a .summed) _ (a .at) (a .ids .now) _ _ _ (a .came-from .now) _ _ _ _ (c .before .before .before .before .before .before .before .before .before .before .before .before .before .before .before .before .found .given .1) (known .0) (c .before .before .before .before .before .before .before .before .before .before .before .before .before .append-leg .result) (c .before .before .before .before .before .cover-leg .result) (c .before .before .before .before .before .before .before .before .before .before .before .before .before .append-leg .ensures) (v .0) (v .1) (v .2 ∙ ap (cover-all (a .summed) (coverages-at t (a .n0) (a .covered .now) (a .coverage .now))) there))
 
 -- src/leg.rt:32:1
 returns-2 : tie.Need-returns-2
-returns-2 c = leaves-none (c .before .before .before .before .before .before .before .args .s .now) (c .before .before .before .before .before .before .before .args .c) _ _ _ _ _ _ _ (c .before .before .before .before .before .before .before .args .came-from .now) _ _ _ (c .enum-told .given .1)
+returns-2 c = leg-written-none (c .before .before .before .before .before .before .before .args .s .now) (c .before .before .before .before .before .before .before .args .c) _ _ _ _ _ _ _ (c .before .before .before .before .before .before .before .args .came-from .now) _ _ _ (c .enum-told .given .1)
 
 -- src/leg.rt:32:1
 returns-3 : tie.Need-returns-3
-returns-3 c = leaves-full (c .before .before .before .before .before .before .before .args .s .now) (c .before .before .before .before .before .before .before .args .c) _ _ _ _ _ _ _ (c .before .before .before .before .before .before .before .args .came-from .now) _ _ _ (c .enum-told2 .given .1)
+returns-3 c = leg-written-full (c .before .before .before .before .before .before .before .args .s .now) (c .before .before .before .before .before .before .before .args .c) _ _ _ _ _ _ _ (c .before .before .before .before .before .before .before .args .came-from .now) _ _ _ (c .enum-told2 .given .1)
 
 pub leave-spec : {M : Type 1} → statement M
 leave-spec =

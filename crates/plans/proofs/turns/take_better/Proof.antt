@@ -1,9 +1,8 @@
-use Rattle.plans.proofs.Settling.{next-taken, best-kept}
+use Rattle.plans.proofs.AfterPair.{next-taken, best-kept}
 use borrow.Author.Needs.{needs}
 use Rattle.plans.proofs.turns.take_better.Statement.{statement}
 use Rattle.plans.proofs.turns.take_better.Tie as tie
 use Rattle.plans.proofs.turns.take_better.Reads as reads
-use Rattle.plans.proofs.turns.take_better.Lts as lts
 use Rattle.rules.proofs.routes.improves.Reads as improves-reads
 
 -- src/turns.rt:122:8
@@ -12,11 +11,11 @@ improves-requires c κs = search needs
 
 -- src/turns.rt:123:9
 returns : tie.Need-returns
-returns c = let s = c .before .before in λ seek nodes. next-taken (s .args .best) (s .args .next) _ (c .before .improves .ensures) seek nodes (c .if1 .taken)
+returns c = let s = c .before .before in λ search nodes. next-taken (s .args .best) (s .args .next) _ (c .before .improves .ensures) search nodes (c .if1 .taken)
 
 -- src/turns.rt:119:1
 returns-2 : tie.Need-returns-2
-returns-2 c = let s = c .before .before in λ seek nodes holds. best-kept (s .args .best) (s .args .next) _ (c .before .improves .ensures) seek nodes (c .if1 .left)
+returns-2 c = let s = c .before .before in λ search nodes holds. best-kept (s .args .best) (s .args .next) _ (c .before .improves .ensures) search nodes (c .if1 .left)
 
 pub take-better-spec : {M : Type 1} → statement M
 take-better-spec = tie.close (tie.spec improves-requires returns returns-2)

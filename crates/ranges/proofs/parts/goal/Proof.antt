@@ -1,5 +1,5 @@
 use native.Mathlib.Omega.{arith}
-use Rattle.model.specs.Table.{check-then, alike}
+use Rattle.model.specs.Table.{check-then, fields-alike}
 use Rattle.model.specs.Judge.{goal-table}
 use Rattle.ranges.proofs.parts.goal.Statement.{statement}
 use Rattle.ranges.proofs.parts.goal.Tie as tie
@@ -14,7 +14,7 @@ number-requires : tie.Need-number-requires
 number-requires c κs = omega (arith, c .before .before .before .pre)
 
 returns : tie.Need-returns
-unfolding goal-table check-then alike
+unfolding goal-table check-then fields-alike
 returns c = cc
 
 pub goal-spec : {M : Type 1} → statement M

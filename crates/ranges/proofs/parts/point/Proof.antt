@@ -1,4 +1,4 @@
-use Rattle.model.specs.Table.{check-then, alike}
+use Rattle.model.specs.Table.{check-then, fields-alike}
 use Rattle.model.specs.Judge.{point-table}
 use borrow.Author.Needs.{needs}
 use Rattle.ranges.proofs.parts.point.Statement.{statement}
@@ -38,7 +38,7 @@ float-requires : tie.Need-float-requires
 float-requires c κs = search needs
 
 returns : tie.Need-returns
-unfolding point-table check-then alike
+unfolding point-table check-then fields-alike
 returns c =
     rw (
       c .float .ensures,

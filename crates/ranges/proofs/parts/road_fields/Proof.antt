@@ -1,4 +1,4 @@
-use Rattle.model.specs.Table.{check-then, alike}
+use Rattle.model.specs.Table.{check-then, fields-alike}
 use Rattle.model.specs.Judge.{road-table}
 use borrow.Author.Needs.{needs}
 use Rattle.ranges.proofs.parts.road_fields.Statement.{statement}
@@ -26,7 +26,7 @@ float-requires : tie.Need-float-requires
 float-requires c κs = search needs
 
 returns : tie.Need-returns
-unfolding road-table check-then alike
+unfolding road-table check-then fields-alike
 returns c = cc
 
 pub road-fields-spec : {M : Type 1} → statement M

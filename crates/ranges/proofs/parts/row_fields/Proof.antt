@@ -1,4 +1,4 @@
-use Rattle.model.specs.Table.{check-then, alike}
+use Rattle.model.specs.Table.{check-then, fields-alike}
 use Rattle.model.specs.Judge.{row-table}
 use borrow.Author.Needs.{needs}
 use Rattle.ranges.proofs.parts.row_fields.Statement.{statement}
@@ -23,7 +23,7 @@ number-requires : tie.Need-number-requires
 number-requires c κs = search needs
 
 returns : tie.Need-returns
-unfolding row-table check-then alike
+unfolding row-table check-then fields-alike
 returns c = cc
 
 pub row-fields-spec : {M : Type 1} → statement M

@@ -1,4 +1,4 @@
-use Rattle.model.specs.Table.{check-then, alike}
+use Rattle.model.specs.Table.{check-then, fields-alike}
 use Rattle.model.specs.Judge.{settings-table}
 use borrow.Author.Needs.{needs}
 use Rattle.ranges.proofs.parts.settings.Statement.{statement}
@@ -17,7 +17,7 @@ measures-requires : tie.Need-measures-requires
 measures-requires c κs = search needs
 
 returns : tie.Need-returns
-unfolding settings-table check-then alike
+unfolding settings-table check-then fields-alike
 returns c = cc
 
 pub settings-spec : {M : Type 1} → statement M

@@ -1,7 +1,7 @@
 use native.Mathlib.Omega.{arith}
 use borrow.Author.Tests.{ltb-false}
 use Rattle.model.specs.Ends.{grown}
-use Rattle.road_network.specs.Near.{is-second}
+use Rattle.road_network.specs.Neighbours.{is-second}
 use Rattle.road_network.proofs.graph.grown.Statement.{statement}
 use Rattle.road_network.proofs.graph.grown.Tie as tie
 

@@ -1,5 +1,5 @@
 use borrow.Author.Needs.{needs}
-use Rattle.road_network.specs.Near.{has-choice}
+use Rattle.road_network.specs.Neighbours.{has-choice}
 use Rattle.road_network.proofs.graph.has_choice.Statement.{statement}
 use Rattle.road_network.proofs.graph.has_choice.Tie as tie
 

@@ -1,4 +1,4 @@
-use Rattle.road_network.specs.Near.{is-second}
+use Rattle.road_network.specs.Neighbours.{is-second}
 use Rattle.road_network.proofs.graph.is_second.Statement.{statement}
 use Rattle.road_network.proofs.graph.is_second.Tie as tie
 

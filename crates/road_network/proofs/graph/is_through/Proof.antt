@@ -1,17 +1,17 @@
 use native.Mathlib.Omega.{arith}
 use borrow.Author.Needs.{needs}
-use Rattle.road_network.specs.Near.{is-through}
+use Rattle.road_network.specs.Neighbours.{is-through}
 use Rattle.road_network.proofs.graph.is_through.Statement.{statement}
 use Rattle.road_network.proofs.graph.is_through.Tie as tie
 
-enum-known-near : tie.Need-enum-known-near
-enum-known-near c = search needs
+enum-known-known : tie.Need-enum-known-known
+enum-known-known c = search needs
 
 add-result : tie.Need-add-result
-add-result c = omega (arith, rw (c .before .before .before .near .given .1) at (c .before .before .before .before .before .pre))
+add-result c = omega (arith, rw (c .before .before .before .known .given .1) at (c .before .before .before .before .before .pre))
 
 add-result-2 : tie.Need-add-result-2
-add-result-2 c = omega (arith, rw (c .before .before .before .before .before .near .given .1) at (c .before .before .before .before .before .before .before .pre))
+add-result-2 c = omega (arith, rw (c .before .before .before .before .before .known .given .1) at (c .before .before .before .before .before .before .before .pre))
 
 enum-told : tie.Need-enum-told
 enum-told c = search needs
@@ -24,7 +24,7 @@ enum-told-3 c = search needs
 
 returns : tie.Need-returns
 unfolding is-through
-returns c = rw (c .before .before .before .before .before .near .given .1)
+returns c = rw (c .before .before .before .before .before .known .given .1)
 
 returns-2 : tie.Need-returns-2
 unfolding is-through
@@ -42,7 +42,7 @@ pub is-through-spec : {M : Type 1} → statement M
 is-through-spec =
     tie.close
     (tie.spec
-    enum-known-near
+    enum-known-known
     add-result
     add-result-2
     enum-told

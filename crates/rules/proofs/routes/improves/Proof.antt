@@ -7,10 +7,10 @@ best-score-requires : tie.Need-best-score-requires
 best-score-requires c κs = search needs
 
 returns : tie.Need-returns
-returns c = λ seek. lower-improves seek _ _ (c .before .before .if1 .taken) _ (c .before .best-score .ensures seek)
+returns c = λ search. lower-improves search _ _ (c .before .before .if1 .taken) _ (c .before .best-score .ensures search)
 
 returns-2 : tie.Need-returns-2
-returns-2 c = λ seek. none-improves seek _ _ (c .if1 .left)
+returns-2 c = λ search. none-improves search _ _ (c .if1 .left)
 
 pub improves-spec : {M : Type 1} → statement M
 improves-spec = tie.close (tie.spec best-score-requires returns returns-2)

@@ -110,8 +110,8 @@ returns c =
     let clear = c .before .before .clear in
     let a = start .args in
     let p = start .pre in (
-      λ roads q nodes far. rw (clear .ensures) (begun-state (a .n) (a .start) (a .slots) _ (a .came-from .now) _ (a .links .now) (a .ahead) (p .0) (p .1) (p .2) roads q nodes far),
-      λ e. rw (clear .ensures) (begun-proper (a .n) (a .start) (a .slots) _ (a .came-from .now) _ (a .links .now) (a .ahead) (p .0) (p .1) (p .2) e),
+      λ roads q nodes far. rw (clear .ensures) (begun-state (a .n) (a .start) (a .slots) _ (a .came-from .now) _ (a .links .now) (a .heuristic) (p .0) (p .1) (p .2) roads q nodes far),
+      λ e. rw (clear .ensures) (begun-proper (a .n) (a .start) (a .slots) _ (a .came-from .now) _ (a .links .now) (a .heuristic) (p .0) (p .1) (p .2) e),
     )
 
 pub prepare-spec : {M : Type 1} → statement M

@@ -58,8 +58,8 @@ mul-came-from c = search needs
 slice-write-came-from : tie.Need-slice-write-came-from
 slice-write-came-from c = search needs
 
-ahead-requires : tie.Need-ahead-requires
-ahead-requires c κs = search needs
+heuristic-requires : tie.Need-heuristic-requires
+heuristic-requires c κs = search needs
 
 mul-entries : tie.Need-mul-entries
 mul-entries c =
@@ -163,11 +163,11 @@ returns-2 c =
     let start = c .before .before .before .before .before .before .before .before .before .before .before .before in
     let if1 = c .before .before .before .before .before .before .if1 in
     let push = c .before .before .push in
-    let ahead = c .before .before .before .before .before .ahead in
+    let heuristic = c .before .before .before .before .before .heuristic in
     let p = start .pre in
     let few = roads-few _ _ (p .0 .formed) in (
       entered-kept _ _ _ few _ _ _ _ _ _ (p .1) (if1 .left) _ (p .2) _ (p .3) _ _ _ _ (push .kept .0) (push .ensures),
-      entered-state _ _ _ few _ _ _ _ _ _ (p .1) (if1 .left) _ (p .2) _ (p .3) _ _ _ _ (push .kept .0) (push .ensures) _ _ (ahead .ensures),
+      entered-state _ _ _ few _ _ _ _ _ _ (p .1) (if1 .left) _ (p .2) _ (p .3) _ _ _ _ (push .kept .0) (push .ensures) _ _ (heuristic .ensures),
     )
 
 pub enter-spec : {M : Type 1} → statement M
@@ -182,7 +182,7 @@ enter-spec =
     slice-write-labels-2
     mul-came-from
     slice-write-came-from
-    ahead-requires
+    heuristic-requires
     mul-entries
     slice-write-entries
     add-entries

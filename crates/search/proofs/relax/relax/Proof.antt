@@ -84,7 +84,7 @@ returns c =
     let a = start .args in
     let p = start .pre in
     let t = sheet-of (a .s .now) (a .c) in
-    let sees = sees-areas t (a .ask) (road-at t) (a .c .n) (take (a .c .n) (a .labels .now)) (drop (a .c .n) (a .labels .now)) (a .came-from .now) (a .u) (a .g) (a .r) (p .1 .0) (p .1 .1) (p .1 .2) (penalty .ensures) (getD-take (a .c .n) (a .labels .now) (a .u) nan (p .1 .0)) (getD-drop (a .c .n) (a .labels .now) (a .r .target) nan) in
+    let sees = sees-areas t (a .query) (road-at t) (a .c .n) (take (a .c .n) (a .labels .now)) (drop (a .c .n) (a .labels .now)) (a .came-from .now) (a .u) (a .g) (a .r) (p .1 .0) (p .1 .1) (p .1 .2) (penalty .ensures) (getD-take (a .c .n) (a .labels .now) (a .u) nan (p .1 .0)) (getD-drop (a .c .n) (a .labels .now) (a .r .target) nan) in
     let offered = c .before .before .offer-of .ensures _ _ _ sees in
     (kept-same (p .0 .1), relax-keep _ _ _ _ _ offered (c .enum-told .given .1))
 
@@ -110,7 +110,7 @@ returns-2 c =
     let a = start .args in
     let p = start .pre in
     let t = sheet-of (a .s .now) (a .c) in
-    let sees = sees-areas t (a .ask) (road-at t) (a .c .n) (take (a .c .n) (a .labels .now)) (drop (a .c .n) (a .labels .now)) (a .came-from .now) (a .u) (a .g) (a .r) (p .1 .0) (p .1 .1) (p .1 .2) (penalty .ensures) (getD-take (a .c .n) (a .labels .now) (a .u) nan (p .1 .0)) (getD-drop (a .c .n) (a .labels .now) (a .r .target) nan) in
+    let sees = sees-areas t (a .query) (road-at t) (a .c .n) (take (a .c .n) (a .labels .now)) (drop (a .c .n) (a .labels .now)) (a .came-from .now) (a .u) (a .g) (a .r) (p .1 .0) (p .1 .1) (p .1 .2) (penalty .ensures) (getD-take (a .c .n) (a .labels .now) (a .u) nan (p .1 .0)) (getD-drop (a .c .n) (a .labels .now) (a .r .target) nan) in
     let offered = offer-of .ensures _ _ _ sees in
     (enter .ensures .0, relax-better _ _ _ _ _ offered (o .given .1) (enter .ensures .1) (p .1 .4))
 

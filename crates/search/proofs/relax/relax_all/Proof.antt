@@ -6,7 +6,7 @@ use Rattle.model.specs.Judge.{entry-of}
 use Rattle.model.specs.Sheet.{sheet-of, road-at}
 use Rattle.model.specs.Search.{relax-all}
 use Rattle.sheet.proofs.Parts.{starts-rise}
-use Rattle.search.specs.Ask.{asked}
+use Rattle.search.specs.Query.{query-on}
 use Rattle.search.specs.Areas.{entry-from, columns, state-of}
 use Rattle.search.proofs.Roads.{road-known, ways-of}
 use Rattle.search.proofs.Growth.{kept-same}
@@ -16,14 +16,14 @@ use Rattle.search.proofs.relax.relax_all.Statement.{statement}
 use Rattle.search.proofs.relax.relax_all.Tie as tie
 
 abbrev Inv-loop : tie.InvT-loop
-Inv-loop s c ask row slots labels₀ came-from₀ entries₀ links₀ first-len first-made u g len₀ made₀ i₀ end labels came-from entries links len made i =
-    (end ≤ c .e) × Rest (c .n) (c .e) slots (asked (sheet-of s c) ask) (entry-from u g) (road-at (sheet-of s c)) (ask .constraints) (entry-of s c) end
-    (relax-all slots (asked (sheet-of s c) ask) (entry-from u g) (asked (sheet-of s c) ask .leaving u) (state-of (road-at (sheet-of s c)) (c .n) (columns (c .n) slots labels₀ came-from₀ entries₀ links₀ first-len first-made)))
+Inv-loop s c query row slots labels₀ came-from₀ entries₀ links₀ first-len first-made u g len₀ made₀ i₀ end labels came-from entries links len made i =
+    (end ≤ c .e) × Rest (c .n) (c .e) slots (query-on (sheet-of s c) query) (entry-from u g) (road-at (sheet-of s c)) (query .constraints) (entry-of s c) end
+    (relax-all slots (query-on (sheet-of s c) query) (entry-from u g) (query-on (sheet-of s c) query .leaving u) (state-of (road-at (sheet-of s c)) (c .n) (columns (c .n) slots labels₀ came-from₀ entries₀ links₀ first-len first-made)))
     (columns (c .n) slots labels₀ came-from₀ entries₀ links₀ first-len first-made)
     (columns (c .n) slots labels came-from entries links len made) i
 
 abbrev μ-loop : tie.MeasureT-loop
-μ-loop s c ask row slots labels₀ came-from₀ entries₀ links₀ first-len first-made u g len₀ made₀ i₀ end labels came-from entries links len made i =
+μ-loop s c query row slots labels₀ came-from₀ entries₀ links₀ first-len first-made u g len₀ made₀ i₀ end labels came-from entries links len made i =
     end - i
 
 start-requires : tie.Need-start-requires Inv-loop μ-loop
@@ -47,7 +47,7 @@ loop-holds c =
     let start2 = c .start2 in
     let p = start .pre in
     let w = p .0 .0 .formed in
-    (start2 .ensures .1, rest-start _ _ (kept-same (p .0 .1)) (c .before .start .ensures .0) (start2 .ensures .0) (starts-rise _ _ w _ (p .1 .0)) (ways-of _ _ w (start .args .ask) _ (p .1 .0)))
+    (start2 .ensures .1, rest-start _ _ (kept-same (p .0 .1)) (c .before .start .ensures .0) (start2 .ensures .0) (starts-rise _ _ w _ (p .1 .0)) (ways-of _ _ w (start .args .query) _ (p .1 .0)))
 
 entry-requires : tie.Need-entry-requires Inv-loop μ-loop
 entry-requires c κs =
@@ -99,7 +99,7 @@ same-length-3 : tie.Need-same-length-3 Inv-loop μ-loop
 same-length-3 c =
     let relax = c .before .before .before .before .before .before .before .before .before .before .relax in
     let loop = c .before .before .before .before .before .before .before .before .before .before .before .before .before .before .before .before .before .before .before .before .loop in
-    relax .kept .1 .1 .1 .1 .1 .1 .1 .0 ∙ both-size (c .before .before .before .before .before .before .before .before .before .before .before .before .before .before .before .before .before .before .before .before .before .before .before .before .before .before .before .before .args .slots) (c .before .before .before .before .before .before .before .before .before .before .before .before .before .before .before .before .before .before .before .before .before .before .before .before .before .before .before .before .args .entries .now) (loop .entries) (loop .inv .1 .kept .sizes .key) (loop .inv .1 .kept .sizes .cost)
+    relax .kept .1 .1 .1 .1 .1 .1 .1 .0 ∙ both-size (c .before .before .before .before .before .before .before .before .before .before .before .before .before .before .before .before .before .before .before .before .before .before .before .before .before .before .before .before .args .slots) (c .before .before .before .before .before .before .before .before .before .before .before .before .before .before .before .before .before .before .before .before .before .before .before .before .before .before .before .before .args .entries .now) (loop .entries) (loop .inv .1 .kept .sizes .f-score) (loop .inv .1 .kept .sizes .g-score)
 
 same-length-4 : tie.Need-same-length-4 Inv-loop μ-loop
 same-length-4 c =
@@ -162,7 +162,7 @@ same-length-6 : tie.Need-same-length-6 Inv-loop μ-loop
 same-length-6 c = c .before .loop .inv .1 .kept .sizes .came
 
 same-length-7 : tie.Need-same-length-7 Inv-loop μ-loop
-same-length-7 c = both-size (c .before .before .before .before .before .before .before .before .before .args .slots) (c .before .before .before .before .before .before .before .before .before .args .entries .now) (c .before .loop .entries) (c .before .loop .inv .1 .kept .sizes .key) (c .before .loop .inv .1 .kept .sizes .cost)
+same-length-7 c = both-size (c .before .before .before .before .before .before .before .before .before .args .slots) (c .before .before .before .before .before .before .before .before .before .args .entries .now) (c .before .loop .entries) (c .before .loop .inv .1 .kept .sizes .f-score) (c .before .loop .inv .1 .kept .sizes .g-score)
 
 same-length-8 : tie.Need-same-length-8 Inv-loop μ-loop
 same-length-8 c = both-size (c .before .before .before .before .before .before .before .before .before .args .slots) (c .before .before .before .before .before .before .before .before .before .args .links .now) (c .before .loop .links) (c .before .loop .inv .1 .kept .sizes .order) (c .before .loop .inv .1 .kept .sizes .node)

@@ -6,7 +6,6 @@ use Prim.Native.Nat.{_-_}
 use Rattle.search.proofs.route.count_back.Statement.{statement}
 use Rattle.search.proofs.route.count_back.Tie as tie
 use Rattle.search.proofs.route.count_back.Reads as reads
-use Rattle.search.proofs.route.count_back.Lts as lts
 use Rattle.sheet.proofs.roads.source.Reads as source-reads
 
 abbrev Inv-loop : tie.InvT-loop

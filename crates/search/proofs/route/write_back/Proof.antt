@@ -11,7 +11,6 @@ use mathlib.Core.Path.{_≡_, refl, sym, ap, _∙_}
 use Rattle.search.proofs.route.write_back.Statement.{statement}
 use Rattle.search.proofs.route.write_back.Tie as tie
 use Rattle.search.proofs.route.write_back.Reads as reads
-use Rattle.search.proofs.route.write_back.Lts as lts
 use Rattle.sheet.proofs.roads.source.Reads as source-reads
 
 abbrev Inv-loop : tie.InvT-loop

@@ -4,7 +4,7 @@ use native.Mathlib.Omega.{arith}
 use lib.Seq.{length-take-le, length-front}
 use Rattle.model.specs.Sheet.{sheet-of, road-at}
 use Rattle.model.specs.Search.{run}
-use Rattle.search.specs.Ask.{asked}
+use Rattle.search.specs.Query.{query-on}
 use Rattle.search.specs.Areas.{columns, state-of}
 use Rattle.search.proofs.Halves.{halves-length, both-size, areas-same, areas-ordered}
 use Rattle.search.proofs.Entries.{keys-agree, can-pop}
@@ -14,13 +14,13 @@ use Rattle.search.proofs.turns.run_search.Statement.{statement}
 use Rattle.search.proofs.turns.run_search.Tie as tie
 
 abbrev Inv-loop : tie.InvT-loop
-Inv-loop s c ask row slots labels₀ came-from₀ entries₀ links₀ t₀ labels came-from entries links t =
-    Running (c .n) (c .e) slots (ask .goal) (asked (sheet-of s c) ask) (road-at (sheet-of s c))
-    (λ steps. run steps slots slots (asked (sheet-of s c) ask) (state-of (road-at (sheet-of s c)) (c .n) (columns (c .n) slots labels₀ came-from₀ entries₀ links₀ 1 1)))
+Inv-loop s c query row slots labels₀ came-from₀ entries₀ links₀ t₀ labels came-from entries links t =
+    Running (c .n) (c .e) slots (query .goal) (query-on (sheet-of s c) query) (road-at (sheet-of s c))
+    (λ steps. run steps slots slots (query-on (sheet-of s c) query) (state-of (road-at (sheet-of s c)) (c .n) (columns (c .n) slots labels₀ came-from₀ entries₀ links₀ 1 1)))
     (columns (c .n) slots labels₀ came-from₀ entries₀ links₀ 1 1) (t .progress) (columns (c .n) slots labels came-from entries links (t .len) (t .made))
 
 abbrev μ-loop : tie.MeasureT-loop
-μ-loop s c ask row slots labels₀ came-from₀ entries₀ links₀ t₀ labels came-from entries links t =
+μ-loop s c query row slots labels₀ came-from₀ entries₀ links₀ t₀ labels came-from entries links t =
     slots + t .len - t .made
 
 loop-holds : tie.Need-loop-holds Inv-loop μ-loop
@@ -39,7 +39,7 @@ pop-requires c κs =
     let loop = c .before .before .before .before .loop in
     let if1 = c .before .before .if1 in
     let proper = looking-proper (loop .inv) (if1 .taken) in
-    can-pop proper _ (omega (arith, proper .sized .key, halves-length (c .before .before .before .before .before .before .before .before .before .before .args .slots) (loop .entries))) (if1 .taken)
+    can-pop proper _ (omega (arith, proper .sized .f-score, halves-length (c .before .before .before .before .before .before .before .before .before .before .args .slots) (loop .entries))) (if1 .taken)
 
 sub-left : tie.Need-sub-left Inv-loop μ-loop
 sub-left c =
@@ -99,7 +99,7 @@ same-length-2 : tie.Need-same-length-2 Inv-loop μ-loop
 same-length-2 c = c .before .before .loop .inv .sizes .came
 
 same-length-3 : tie.Need-same-length-3 Inv-loop μ-loop
-same-length-3 c = both-size (c .before .before .before .before .before .before .before .before .args .slots) (c .before .before .before .before .before .before .before .before .args .entries .now) (c .before .before .loop .entries) (c .before .before .loop .inv .sizes .key) (c .before .before .loop .inv .sizes .cost)
+same-length-3 c = both-size (c .before .before .before .before .before .before .before .before .args .slots) (c .before .before .before .before .before .before .before .before .args .entries .now) (c .before .before .loop .entries) (c .before .before .loop .inv .sizes .f-score) (c .before .before .loop .inv .sizes .g-score)
 
 same-length-4 : tie.Need-same-length-4 Inv-loop μ-loop
 same-length-4 c = both-size (c .before .before .before .before .before .before .before .before .args .slots) (c .before .before .before .before .before .before .before .before .args .links .now) (c .before .before .loop .links) (c .before .before .loop .inv .sizes .order) (c .before .before .loop .inv .sizes .node)

@@ -8,11 +8,11 @@ use lib.ListN.{getD}
 use lib.Seq.{getD-drop}
 use lib.Ieee.{nan}
 use Rattle.model.specs.Search.{relax-all}
-use Rattle.search.specs.Ask.{asked}
+use Rattle.search.specs.Query.{query-on}
 use Rattle.search.specs.Areas.{unreached, columns}
 use Rattle.search.proofs.Halves.{lent}
 use Rattle.search.proofs.Growth.{kept-same}
-use Rattle.search.proofs.Visits.{visit-found, visit-old, visit-roads, found-proper, turn-went}
+use Rattle.search.proofs.Visits.{visit-found, visit-old, visit-roads, found-proper, turn-after-visit}
 use Rattle.search.proofs.turns.visit.Statement.{statement}
 use Rattle.search.proofs.turns.visit.Tie as tie
 
@@ -80,7 +80,7 @@ slice-read-kept c =
     omega (arith, getD-drop (a .slots) (a .links .now) (a .e) 0, p .1 .nodes _ (p .2))
 
 returns : tie.Need-returns
-unfolding asked
+unfolding query-on
 returns c =
     let start = c .before .before .before .before .before .before .before .before .before .before in
     let if1 = c .if1 in
@@ -92,7 +92,7 @@ returns c =
     ((found-proper (p .1), reached, refl, le-refl _), λ steps. visit-found _ _ (p .1) _ (p .2) same costs labelled steps (if1 .taken))
 
 returns-2 : tie.Need-returns-2
-unfolding asked
+unfolding query-on
 returns-2 c =
     let start = c .before .before .before .before .before .before .before .before .before .before .before in
     let p = start .pre in
@@ -110,8 +110,8 @@ relax-all-requires c κs =
     let labelled = getD-drop (start .args .c .n) (start .args .labels .now) (getD (start .args .links .now) (start .args .slots + start .args .e) 0) nan in
     ((p .0, p .1), (rw same at (p .1 .nodes _ (p .2)), rw same at (p .1 .reached _ (p .2))))
 
-settle-requires : tie.Need-settle-requires
-settle-requires c κs = search needs
+after-relaxing-requires : tie.Need-after-relaxing-requires
+after-relaxing-requires c κs = search needs
 
 same-length : tie.Need-same-length
 same-length c = search needs
@@ -126,7 +126,7 @@ same-length-4 : tie.Need-same-length-4
 same-length-4 c = search needs
 
 returns-3 : tie.Need-returns-3
-unfolding asked
+unfolding query-on
 returns-3 c =
     let start = c .before .before .before .before .before .before .before .before .before .before .before .before .before .before .before .before .before .before .before .before .before .before .before .before .before in
     let relax-all = c .before .before .before .before .before .before .before .before .before .relax-all in
@@ -138,8 +138,8 @@ returns-3 c =
     let same = getD-drop (start .args .slots) (start .args .links .now) (start .args .e) 0 in
     let costs = getD-drop (start .args .slots) (start .args .entries .now) (start .args .e) nan in
     let labelled = getD-drop (start .args .c .n) (start .args .labels .now) (getD (start .args .links .now) (start .args .slots + start .args .e) 0) nan in
-    rw (c .settle .ensures) (
-      turn-went _ (p .1) (relax-all .result) after (λ len made. (refl, refl)) (relax-all .ensures .0),
+    rw (c .after-relaxing .ensures) (
+      turn-after-visit _ (p .1) (relax-all .result) after (λ len made. (refl, refl)) (relax-all .ensures .0),
       λ steps. visit-roads _ _ (p .1) _ (p .2) same costs labelled steps (if1 .left) (if2 .left) (relax-all .result) after (relax-all .ensures .1),
     )
 
@@ -159,7 +159,7 @@ visit-spec =
     returns
     returns-2
     relax-all-requires
-    settle-requires
+    after-relaxing-requires
     same-length
     same-length-2
     same-length-3

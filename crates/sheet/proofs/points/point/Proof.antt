@@ -1,7 +1,7 @@
 use native.Mathlib.Omega.{arith}
 use borrow.Author.Needs.{needs}
 use Rattle.model.proofs.Fields.{dnp-most, point-bearing-most, point-class-most}
-use Rattle.sheet.proofs.Stops.{point-is}
+use Rattle.sheet.proofs.MeasuredPoints.{point-is}
 use Rattle.sheet.proofs.points.point.Statement.{statement}
 use Rattle.sheet.proofs.points.point.Tie as tie
 

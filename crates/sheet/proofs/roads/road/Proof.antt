@@ -8,8 +8,8 @@ use Rattle.sheet.proofs.roads.road.Tie as tie
 id-requires : tie.Need-id-requires
 id-requires c κs = search needs
 
-metres-requires : tie.Need-metres-requires
-metres-requires c κs = search needs
+length-m-requires : tie.Need-length-m-requires
+length-m-requires c κs = search needs
 
 source-requires : tie.Need-source-requires
 source-requires c κs = search needs
@@ -34,14 +34,14 @@ returns c =
     let frc = c .before .before .frc .ensures in
     let fow = c .before .fow .ensures in
     let number = number-is (start .args .s .now) (start .args .c) (start .args .r) (start .pre .1) in
-    (same-road _ (sym number) (c .before .before .before .before .before .before .id .ensures) (c .before .before .before .before .before .metres .ensures) (source .0) (target .0) (frc .0) (fow .0) (c .access .ensures), source .1, target .1, frc .1, fow .1)
+    (same-road _ (sym number) (c .before .before .before .before .before .before .id .ensures) (c .before .before .before .before .before .length-m .ensures) (source .0) (target .0) (frc .0) (fow .0) (c .access .ensures), source .1, target .1, frc .1, fow .1)
 
 pub road-spec : {M : Type 1} → statement M
 road-spec =
     tie.close
     (tie.spec
     id-requires
-    metres-requires
+    length-m-requires
     source-requires
     target-requires
     frc-requires
