@@ -13,7 +13,7 @@ use Rattle.model.specs.Sheet.{Sheet, road-at, no-road}
 use Rattle.model.specs.Legs.{terminal, whole}
 use Rattle.model.specs.Legs as legs
 use Rattle.rules.specs.declared.Middle.{Middle}
-use Rattle.rules.specs.declared.Terminal.{Terminal}
+use Rattle.rules.specs.declared.TerminalEdge.{TerminalEdge}
 use Rattle.rules.specs.declared.PathResult.{PathResult}
 use Rattle.rules.specs.Code.{terminal-of}
 use Rattle.search.specs.Areas.{back-way}
@@ -43,7 +43,7 @@ length-three xs ys zs = omega (arith, length-append (xs ++ ys) zs, length-append
 
 -- ---- a terminal road
 
-abbrev covered : Terminal → legs.EdgeCoverage
+abbrev covered : TerminalEdge → legs.EdgeCoverage
 covered p = record { road = p .road; coverage-m = p .«coverage_m» }
 
 pub terminal-one : (b : Bool) (r : Road) (m : Float) → b ≡ true → 1 ≡ length (terminal b r m)
@@ -80,7 +80,7 @@ terminal-at true r m zero d h = (refl, refl)
 terminal-at true r m (suc j) d h = absurd (omega arith)
 terminal-at false r m j d h = absurd (omega arith)
 
-module _ (p : Terminal) (j : ℕ) (h : j < length (terminal-of p)) where
+module _ (p : TerminalEdge) (j : ℕ) (h : j < length (terminal-of p)) where
   part-kept : p .kept ≡ true
   part-kept = terminal-at (p .kept) (p .road) (p .«coverage_m») j (covered p) h .0
 
@@ -149,7 +149,7 @@ module _ {t : Sheet} {c : Counts} {r : PathResult} {area : List ℕ} (known : Kn
   Covers k j = (k .«edge_idx» < c .e) × ((d : legs.EdgeCoverage) → coverage-of t k ≡ getD (covers t r area) j d)
 
   -- a terminal road, by its number
-  own-part : (p : Terminal) → road-at t (p .road .number) ≡ p .road → coverage-of t record { «edge_idx» = p .road .number; «coverage_m» = p .«coverage_m» } ≡ covered p
+  own-part : (p : TerminalEdge) → road-at t (p .road .number) ≡ p .road → coverage-of t record { «edge_idx» = p .road .number; «coverage_m» = p .«coverage_m» } ≡ covered p
   own-part p e = ap (λ (x : Road). record { road = x; coverage-m = p .«coverage_m» }) e
 
   -- a leg covers at most N + 1 roads

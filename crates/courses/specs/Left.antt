@@ -14,7 +14,7 @@ use Rattle.model.specs.Sheet.{Sheet, road-at}
 use Rattle.model.specs.Legs as legs
 use Rattle.model.specs.Decode.{cover}
 use Rattle.rules.specs.declared.Middle.{Middle}
-use Rattle.rules.specs.declared.Terminal.{Terminal}
+use Rattle.rules.specs.declared.TerminalEdge.{TerminalEdge}
 use Rattle.rules.specs.declared.PathResult.{PathResult}
 use Rattle.rules.specs.Code.{terminal-of, with-middle}
 use Rattle.search.specs.Areas.{back-way, LeadsBack}
@@ -48,7 +48,7 @@ unfoldable pub size-of : PathResult → ℕ
 size-of r = length (terminal-of (r .head)) + r .middle .count + length (terminal-of (r .tail))
 
 -- a terminal road that is kept is one of the sheet's e roads
-abbrev pub Own : Sheet → ℕ → Terminal → Type 0
+abbrev pub Own : Sheet → ℕ → TerminalEdge → Type 0
 Own t e p = p .kept ≡ true → (p .road .number < e) × (road-at t (p .road .number) ≡ p .road)
 
 -- A route over roads of the sheet: fewer in its middle than there are nodes.

@@ -12,7 +12,7 @@ use crate::Last;
 use model::Counts;
 use rules::Middle;
 use rules::PathResult;
-use rules::Terminal;
+use rules::TerminalEdge;
 use search::route;
 
 // The last of the first n numbers.
@@ -29,7 +29,7 @@ pub fn last_written(ids: &[u64], n: usize) -> Last
 }
 
 // 1 for a terminal road that is kept.
-pub fn terminals(p: Terminal) -> usize
+pub fn terminals(p: TerminalEdge) -> usize
     ensures { λ k. ⌜ (k ≡ length (terminal-of p)) × (k ≤ 1) ⌝ }
 {
     if p.kept { 1 } else { 0 }
@@ -77,7 +77,7 @@ fn skip_of(s: &[u8], c: Counts, last: Last, r: PathResult, came_from: &[usize]) 
 }
 
 // A terminal road that is kept, to the front of `out`: how many.
-fn write_terminal(p: Terminal, out: &mut [u64]) -> usize
+fn write_terminal(p: TerminalEdge, out: &mut [u64]) -> usize
     requires { ⌜ 0 < length (now out) ⌝ }
     ensures { λ k. ⌜ (k ≡ length (terminal-of p)) × (k ≤ 1) × (now (out .exit) ≡ coverage-numbers (terminal-of p) ++ drop k (now (out .entry))) ⌝ }
 {

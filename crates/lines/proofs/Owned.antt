@@ -27,7 +27,7 @@ use Rattle.candidates.specs.Found.{candidates-at}
 use Rattle.candidates.specs.Points.{candidates-of}
 use Rattle.candidates.proofs.Rules.{candidates-are}
 use Rattle.rules.specs.declared.Middle.{Middle}
-use Rattle.rules.specs.declared.Terminal.{Terminal}
+use Rattle.rules.specs.declared.TerminalEdge.{TerminalEdge}
 use Rattle.rules.specs.Code.{terminal-of, with-middle, middle-in}
 use Rattle.search.specs.Areas.{back-way, LeadsBack}
 use Rattle.search.specs.Answers.{RoadNumbers, roads-in}
@@ -40,7 +40,7 @@ use Rattle.lines.specs.Legs.{leg-end-from, sought-by, KnownAs}
 use Rattle.lines.proofs.Sequence.{leg-from, legs-are}
 
 -- a terminal road that is kept stands in the coverages
-kept-in : (p : Terminal) → p .kept ≡ true → In (record { road = p .road; coverage-m = p .«coverage_m» }) (terminal-of p)
+kept-in : (p : TerminalEdge) → p .kept ≡ true → In (record { road = p .road; coverage-m = p .«coverage_m» }) (terminal-of p)
 unfolding terminal
 kept-in p k = rw k here
 

@@ -22,7 +22,7 @@ use road_network::road_class;
 use rules::Best;
 use rules::Middle;
 use rules::PathResult;
-use rules::Terminal;
+use rules::TerminalEdge;
 use rules::lengths;
 use rules::routes;
 use search::SearchEnd;
@@ -95,7 +95,7 @@ fn scored_over(
             total_length: total,
             start_offset_m: start_offset,
             end_offset_m: end_offset,
-            head: Terminal {
+            head: TerminalEdge {
                 kept: first_stays,
                 road: first,
                 coverage_m: start_part,
@@ -106,7 +106,7 @@ fn scored_over(
                 bound,
                 count: n,
             },
-            tail: Terminal {
+            tail: TerminalEdge {
                 kept: last_stays,
                 road: last,
                 coverage_m: end_part,

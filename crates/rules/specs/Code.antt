@@ -12,7 +12,7 @@ use Rattle.model.specs.Legs.{EdgeCoverage, Scored, Pair, MiddleSearch, pair, te
 use Rattle.candidates.specs.declared.candidate.Candidate.{Candidate}
 use Rattle.candidates.specs.Found.{on}
 use Rattle.search.specs.Answers.{roads-in}
-use Rattle.rules.specs.declared.Terminal.{Terminal}
+use Rattle.rules.specs.declared.TerminalEdge.{TerminalEdge}
 use Rattle.rules.specs.declared.Middle.{Middle}
 use Rattle.rules.specs.declared.PathResult.{PathResult}
 use Rattle.rules.specs.declared.Best.{Best}
@@ -21,7 +21,7 @@ use Rattle.rules.specs.declared.Best.{Best}
 abbrev pub pair-as : Candidate → Road → Candidate → Road → Pair
 pair-as start first end last = pair (on first start) (on last end)
 
-abbrev pub terminal-of : Terminal → List EdgeCoverage
+abbrev pub terminal-of : TerminalEdge → List EdgeCoverage
 terminal-of p = terminal (p .kept) (p .road) (p .«coverage_m»)
 
 -- the path over these roads between its terminal ones

@@ -8,7 +8,7 @@ pub mod routes;
 pub mod same_edge;
 
 // A terminal road of a path, if it is kept, with the metres that are covered of it.
-pub struct Terminal {
+pub struct TerminalEdge {
     pub kept: bool,
     pub road: Road,
     pub coverage_m: f64,
@@ -27,9 +27,9 @@ pub struct PathResult {
     pub total_length: f64,
     pub start_offset_m: f64,
     pub end_offset_m: f64,
-    pub head: Terminal,
+    pub head: TerminalEdge,
     pub middle: Middle,
-    pub tail: Terminal,
+    pub tail: TerminalEdge,
 }
 
 // The best path so far, if there is one, with its score.

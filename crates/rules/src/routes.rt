@@ -7,7 +7,7 @@ ghost use Rattle.rules.specs.Code.{pair-as, no-middle, no-seek, best-of,
 use crate::Best;
 use crate::Middle;
 use crate::PathResult;
-use crate::Terminal;
+use crate::TerminalEdge;
 use crate::lengths;
 use candidates::candidate::Candidate;
 use model::Limits;
@@ -39,7 +39,7 @@ pub fn no_best() -> Best
         fow: 0,
         access: false,
     };
-    let part = Terminal {
+    let part = TerminalEdge {
         kept: false,
         road,
         coverage_m: 0.0,
@@ -82,13 +82,13 @@ pub fn same_edge_scored(
             total_length: total,
             start_offset_m: start_offset,
             end_offset_m: end_offset,
-            head: Terminal {
+            head: TerminalEdge {
                 kept: true,
                 road: first,
                 coverage_m: total,
             },
             middle,
-            tail: Terminal {
+            tail: TerminalEdge {
                 kept: false,
                 road: first,
                 coverage_m: 0.0,
