@@ -13,7 +13,7 @@ use Rattle.model.specs.Sheet.{Sheet}
 use Rattle.model.specs.Legs.{Scored, MiddleSearch, leg-pairs, by-sum, try-same-edge-solution, try-pairs, else-pairs, find-best-path, leg-end, next-pair}
 use Rattle.model.specs.Legs as legs
 use Rattle.rules.specs.declared.Best.{Best}
-use Rattle.rules.specs.Code.{no-seek, best-of, BestIs}
+use Rattle.rules.specs.Code.{no-search, best-of, BestIs}
 use Rattle.rules.proofs.BestLaws.{best-none, best-some}
 use Rattle.plans.specs.declared.Phase.the-variants as H
 use Rattle.plans.specs.declared.PairTurn.{PairTurn}
@@ -55,17 +55,17 @@ module _ (st : PairTurn) (search : MiddleSearch) where
 -- ---- a solution on one road, or the pairs
 
 module _ (b : Limits) (search : MiddleSearch) (xs ys : List Candidate) (same : Best) (stands : BestIs same (try-same-edge-solution b (leg-pairs xs ys))) where
-  pub outright : same .found ≡ true → {single : Option Scored} → single ≡ best-of no-seek same → leg-end single ≡ find-best-path b search xs ys
+  pub outright : same .found ≡ true → {single : Option Scored} → single ≡ best-of no-search same → leg-end single ≡ find-best-path b search xs ys
   unfolding find-best-path else-pairs leg-end
   outright f is =
-      let there = best-some no-seek same f in
-      ap leg-end (is ∙ there) ∙ sym (ap (else-pairs b search (leg-pairs xs ys)) (sym (stands no-seek) ∙ there))
+      let there = best-some no-search same f in
+      ap leg-end (is ∙ there) ∙ sym (ap (else-pairs b search (leg-pairs xs ys)) (sym (stands no-search) ∙ there))
 
   pub by-pairs : same .found ≡ false → {x : legs.LegEnd} → x ≡ try-pairs b search (sort by-sum (leg-pairs xs ys)) none → x ≡ find-best-path b search xs ys
   unfolding find-best-path else-pairs
-  by-pairs f is = is ∙ sym (ap (else-pairs b search (leg-pairs xs ys)) (sym (stands no-seek) ∙ best-none no-seek same f))
+  by-pairs f is = is ∙ sym (ap (else-pairs b search (leg-pairs xs ys)) (sym (stands no-search) ∙ best-none no-search same f))
 
 -- a route on one road has no roads that the marks would have to lead over
-pub alone-led : (t : Sheet) (c : Counts) (search : MiddleSearch) (came : List ℕ) (single : Best) (r : LegEnd) → single .route .middle .count ≡ 0
-    → ((search : MiddleSearch) (n : ℕ) → Remembers search n (single .route .middle) → Remembers search n (winner-of r)) → Led t c search came (winner-of r)
-alone-led t c search came single r empty remembers some = absurd (omega (arith, remembers no-seek 0 (λ h. absurd (omega arith)) some .0))
+pub alone-led : (t : Sheet) (c : Counts) (search : MiddleSearch) (came : List ℕ) (single : Best) (r : LegEnd) → single .path .middle .count ≡ 0
+    → ((search : MiddleSearch) (n : ℕ) → Remembers search n (single .path .middle) → Remembers search n (winner-of r)) → Led t c search came (winner-of r)
+alone-led t c search came single r empty remembers some = absurd (omega (arith, remembers no-search 0 (λ h. absurd (omega arith)) some .0))

@@ -24,10 +24,10 @@ module _ (b : Limits) (search : MiddleSearch) (ps : List Pair) where
   pub record Good (nodes n : ℕ) (st : PairTurn) (t : ℕ) : Type 0 where
     pub in-range : t ≤ n
     pub running : t < n → st .phase ≡ H.On
-    pub remembers : Remembers search nodes (st .best .route .middle)
+    pub remembers : Remembers search nodes (st .best .path .middle)
     pub means : next-pair (turn-of (st .phase) (best-of search (st .best))) (try-pairs b search (drop t ps)) ≡ try-pairs b search ps none
 
-  pub good-start : (nodes n : ℕ) (unset : Best) → BestIs unset none → unset .route .middle .count ≡ 0 → Good nodes n (record { phase = H.On; best = unset }) 0
+  pub good-start : (nodes n : ℕ) (unset : Best) → BestIs unset none → unset .path .middle .count ≡ 0 → Good nodes n (record { phase = H.On; best = unset }) 0
   unfolding next-pair turn-of
   good-start nodes n unset is empty = record {
     in-range = omega arith;
@@ -77,7 +77,7 @@ module _ (b : Limits) (search : MiddleSearch) (ps : List Pair) where
       goes H.On g = refl
       goes H.Full g = absurd (omega arith)
 
-      pub good-turn : stop ≡ false → (r : PairTurn) → turn-of (r .phase) (best-of search (r .best)) ≡ try-pair b search (best-of search (st .best)) p → Remembers search nodes (r .best .route .middle)
+      pub good-turn : stop ≡ false → (r : PairTurn) → turn-of (r .phase) (best-of search (r .best)) ≡ try-pair b search (best-of search (st .best)) p → Remembers search nodes (r .best .path .middle)
           → Good nodes n r (place-after (r .phase) t n)
       unfolding end-or-try
       good-turn e r turned remembers = record {

@@ -33,7 +33,7 @@ pub enum LegEnd {
 // The best route, if there is one.
 fn best_or_none(best: Best) -> LegEnd
     ensures means { λ r. ⌜ ((search : MiddleSearch) → leg-end-of search r ≡ leg-end (best-of search best)) ⌝ }
-    ensures remembers { λ r. ⌜ ((search : MiddleSearch) (n : ℕ) → Remembers search n (best .route .middle) → Remembers search n (winner-of r)) ⌝ }
+    ensures remembers { λ r. ⌜ ((search : MiddleSearch) (n : ℕ) → Remembers search n (best .path .middle) → Remembers search n (winner-of r)) ⌝ }
 {
     if best.found {
         let route = best.path;
@@ -45,7 +45,7 @@ fn best_or_none(best: Best) -> LegEnd
 // How a leg ends, by the state after its pairs.
 fn after_pairs(st: PairTurn) -> LegEnd
     ensures means { λ r. ⌜ ((search : MiddleSearch) → leg-end-of search r ≡ end-after-pairs search st) ⌝ }
-    ensures remembers { λ r. ⌜ ((search : MiddleSearch) (n : ℕ) → Remembers search n (st .best .route .middle) → Remembers search n (winner-of r)) ⌝ }
+    ensures remembers { λ r. ⌜ ((search : MiddleSearch) (n : ℕ) → Remembers search n (st .best .path .middle) → Remembers search n (winner-of r)) ⌝ }
 {
     let phase = st.phase;
     let best = st.best;

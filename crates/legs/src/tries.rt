@@ -42,7 +42,7 @@ pub fn try_pair(
     requires { ⌜ SearchRoom (c .n) slots (now labels) (now «came_from») (now entries) (now links) ⌝ }
     ensures means { λ t. ⌜ turn-of (t .phase) (best-of (middle-search-at (sheet-of (now (s .entry)) c) slots b) (t .best))
         ≡ try-pair b (middle-search-at (sheet-of (now (s .entry)) c) slots b) (best-of (middle-search-at (sheet-of (now (s .entry)) c) slots b) best) (pair (at-road (sheet-of (now (s .entry)) c) start) (at-road (sheet-of (now (s .entry)) c) end)) ⌝ }
-    ensures remembers { λ t. ⌜ (Remembers (middle-search-at (sheet-of (now (s .entry)) c) slots b) (c .n) (best .route .middle) → Remembers (middle-search-at (sheet-of (now (s .entry)) c) slots b) (c .n) (t .best .route .middle)) ⌝ }
+    ensures remembers { λ t. ⌜ (Remembers (middle-search-at (sheet-of (now (s .entry)) c) slots b) (c .n) (best .path .middle) → Remembers (middle-search-at (sheet-of (now (s .entry)) c) slots b) (c .n) (t .best .path .middle)) ⌝ }
 {
     let from = start.edge_idx;
     let to = end.edge_idx;
@@ -94,7 +94,7 @@ pub fn try_pairs(
     requires { ⌜ SearchRoom (c .n) slots (now labels) (now «came_from») (now entries) (now links) ⌝ }
     ensures means { λ t. ⌜ end-after-pairs (middle-search-at (sheet-of (now (s .entry)) c) slots b) t
         ≡ try-pairs b (middle-search-at (sheet-of (now (s .entry)) c) slots b) (sort by-sum (pairs (held (sheet-of (now (s .entry)) c) starts) (held (sheet-of (now (s .entry)) c) ends))) none ⌝ }
-    ensures remembers { λ t. ⌜ Remembers (middle-search-at (sheet-of (now (s .entry)) c) slots b) (c .n) (t .best .route .middle) ⌝ }
+    ensures remembers { λ t. ⌜ Remembers (middle-search-at (sheet-of (now (s .entry)) c) slots b) (c .n) (t .best .path .middle) ⌝ }
 {
     let count = starts.count * ends.count;
     let mut by_start = [0.0; MOST_TRIED];

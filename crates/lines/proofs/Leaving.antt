@@ -32,7 +32,7 @@ use Rattle.courses.specs.Left.{path-of, covers, middle-numbers, Walkable, size-
 use Rattle.courses.proofs.Lookup.{numbers-long, numbers-size, size-few}
 use Rattle.courses.proofs.Appended.{numbers-are, numbers-of-roads}
 use Rattle.lines.specs.declared.LegWritten.the-variants as E
-use Rattle.lines.specs.Legs.{leg-limits, leg-end-from, sought-by, KnownAs, LegEndWritten}
+use Rattle.lines.specs.Legs.{leg-limits, leg-end-from, leg-end-by, KnownAs, LegEndWritten}
 
 -- the point of the leg's start
 pub limits-are : (s : List ℕ) (c : Counts) (i : ℕ) → i < c .p → (p : Point) → p ≡ point-of (points-bytes s c) i → limits-of (sheet-of s c .settings) p ≡ leg-limits (sheet-of s c) i
@@ -133,13 +133,13 @@ module _ (s : List ℕ) (c : Counts) (summed : Bool) (dnp : Float) (n : ℕ) (id
   t = sheet-of s c
 
   abbrev pub Left-by : E.the-data → Type 0
-  Left-by = LegEndWritten (sheet-of s c) c summed dnp n ids ks n0 (sought-by (sheet-of s c) came x) ids₁ covered coverage
+  Left-by = LegEndWritten (sheet-of s c) c summed dnp n ids ks n0 (leg-end-by (sheet-of s c) came x) ids₁ covered coverage
 
   pub leg-written-route : (r : PathResult) → x ≡ S.Best r → Known (sheet-of s c) c r (middle-numbers (sheet-of s c) came (r .middle)) → (from count : ℕ)
       → Appended ids n (numbers-of r (middle-numbers (sheet-of s c) came (r .middle))) ids₁ from
       → count ≤ n0 + c .n + 1 → RoadNumbers (c .e) count covered → coverages-at (sheet-of s c) count covered coverage ≡ cover-all summed ks (covers (sheet-of s c) r (middle-numbers (sheet-of s c) came (r .middle)))
       → Left-by (E.Written record { written = from + size-of r - n; covered = count; segment = record { «length_m» = r .«total_length»; «expected_m» = dnp; «start_offset_m» = r .«start_offset_m»; «end_offset_m» = r .«end_offset_m» } })
-  unfolding LegEndWritten sought-by
+  unfolding LegEndWritten leg-end-by
   leg-written-route r is known from count put most below coverages =
       let area = middle-numbers t came (r .middle) in
       let long = numbers-size r area (known .room) in
@@ -157,9 +157,9 @@ module _ (s : List ℕ) (c : Counts) (summed : Bool) (dnp : Float) (n : ℕ) (id
       )
 
   pub leg-written-none : x ≡ S.NoPath → Left-by E.NoPath
-  unfolding LegEndWritten sought-by
+  unfolding LegEndWritten leg-end-by
   leg-written-none is = rw is
 
   pub leg-written-full : x ≡ S.HeapFull → Left-by E.HeapFull
-  unfolding LegEndWritten sought-by
+  unfolding LegEndWritten leg-end-by
   leg-written-full is = rw is

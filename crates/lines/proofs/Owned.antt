@@ -36,7 +36,7 @@ use Rattle.legs.specs.declared.LegEnd as legs
 use Rattle.legs.specs.declared.LegEnd.the-variants as S
 use Rattle.legs.specs.Found.{middle-search-at, leg-end-of, winner-of, Led}
 use Rattle.courses.specs.Left.{path-of, middle-numbers}
-use Rattle.lines.specs.Legs.{leg-end-from, sought-by, KnownAs}
+use Rattle.lines.specs.Legs.{leg-end-from, leg-end-by, KnownAs}
 use Rattle.lines.proofs.Sequence.{leg-from, legs-are}
 
 -- a terminal road that is kept stands in the coverages
@@ -91,14 +91,14 @@ module _ (s : List ℕ) (c : Counts) (w : WellFormed s c) (slots i : ℕ) (h : i
             ∙ h (omega arith) .roads
 
     -- what the leg found is what it found by them
-    pub sought-same : (x : legs.LegEnd) → Led (sheet-of s c) c search came (winner-of x) → sought-by (sheet-of s c) came x ≡ leg-end-of search x
-    unfolding sought-by leg-end-of winner-of
-    sought-same (S.Best r) led = ap (λ (l : List Road). best (with-middle r l)) (middle-same (r .middle) led)
-    sought-same S.NoPath led = refl
-    sought-same S.HeapFull led = refl
+    pub leg-end-same : (x : legs.LegEnd) → Led (sheet-of s c) c search came (winner-of x) → leg-end-by (sheet-of s c) came x ≡ leg-end-of search x
+    unfolding leg-end-by leg-end-of winner-of
+    leg-end-same (S.Best r) led = ap (λ (l : List Road). best (with-middle r l)) (middle-same (r .middle) led)
+    leg-end-same S.NoPath led = refl
+    leg-end-same S.HeapFull led = refl
 
-  pub leg-known : (x : legs.LegEnd) (search : MiddleSearch) (came : List ℕ) → 0 < c .n → sought-by (sheet-of s c) came x ≡ leg-end-from (sheet-of s c) slots i → Led (sheet-of s c) c search came (winner-of x) → KnownAs (sheet-of s c) c x came
-  unfolding sought-by winner-of KnownAs
+  pub leg-known : (x : legs.LegEnd) (search : MiddleSearch) (came : List ℕ) → 0 < c .n → leg-end-by (sheet-of s c) came x ≡ leg-end-from (sheet-of s c) slots i → Led (sheet-of s c) c search came (winner-of x) → KnownAs (sheet-of s c) c x came
+  unfolding leg-end-by winner-of KnownAs
   leg-known (S.Best r) search came some is led =
       let m = r .middle in
       let area = middle-numbers t came m in

@@ -49,10 +49,10 @@ abbrev pub road-numbers : List Road → List ℕ
 road-numbers rs = map (λ (x : Road). x .number) rs
 
 -- what a leg found, over the roads that the marks lead back over
-unfoldable pub sought-by : Sheet → List ℕ → legs.LegEnd → LegEnd
-sought-by t came (S.Best r) = best (path-of t r (middle-numbers t came (r .middle)))
-sought-by t came S.NoPath = no-path
-sought-by t came S.HeapFull = heap-full
+unfoldable pub leg-end-by : Sheet → List ℕ → legs.LegEnd → LegEnd
+leg-end-by t came (S.Best r) = best (path-of t r (middle-numbers t came (r .middle)))
+leg-end-by t came S.NoPath = no-path
+leg-end-by t came S.HeapFull = heap-full
 
 -- a route that a leg found runs over roads of the sheet, and the marks lead back over its middle
 unfoldable pub KnownAs : Sheet → Counts → legs.LegEnd → List ℕ → Type 0

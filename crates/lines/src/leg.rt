@@ -17,7 +17,7 @@ ghost use Rattle.model.specs.Judge.{WellFormed};
 ghost use Rattle.model.specs.Sheet.{sheet-of};
 ghost use Rattle.search.specs.Answers.{RoadNumbers};
 ghost use Rattle.courses.specs.Left.{coverages-at};
-ghost use Rattle.lines.specs.Legs.{leg-limits, sought-by, KnownAs, LegEndWritten};
+ghost use Rattle.lines.specs.Legs.{leg-limits, leg-end-by, KnownAs, LegEndWritten};
 
 // What the leg from point i accepts.
 pub fn leg_limits(s: &[u8], c: Counts, set: Settings, i: usize) -> Limits
@@ -45,7 +45,7 @@ pub fn leave(
     requires { ⌜ WellFormed (now s) c × KnownAs (sheet-of (now s) c) c found (now «came_from») × RoadNumbers (c .e) n0 (now covered) ⌝ }
     requires { ⌜ (n0 + c .n + 1 ≤ length (now covered)) × (n0 + c .n + 1 ≤ length (now coverage)) × (at + c .n + 1 ≤ length (now ids)) ⌝ }
     ensures { λ r. ⌜ LegEndWritten (sheet-of (now (s .entry)) c) c summed dnp at (now (ids .entry)) (coverages-at (sheet-of (now (s .entry)) c) n0 (now (covered .entry)) (now (coverage .entry))) n0
-        (sought-by (sheet-of (now (s .entry)) c) (now («came_from» .entry)) found) (now (ids .exit)) (now (covered .exit)) (now (coverage .exit)) r ⌝ }
+        (leg-end-by (sheet-of (now (s .entry)) c) (now («came_from» .entry)) found) (now (ids .exit)) (now (covered .exit)) (now (coverage .exit)) r ⌝ }
 {
     match found {
         LegEnd::Best(route) => {

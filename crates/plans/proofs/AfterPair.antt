@@ -14,7 +14,7 @@ use Rattle.model.specs.Search as astar
 use Rattle.model.specs.Legs.{Pair, Scored, MiddleSearch, scored-over, improve, middle-of, after-search, after-pair, goes-on}
 use Rattle.rules.specs.declared.Middle.{Middle}
 use Rattle.rules.specs.declared.Best.{Best}
-use Rattle.rules.specs.Code.{no-seek, best-of}
+use Rattle.rules.specs.Code.{no-search, best-of}
 use Rattle.search.specs.declared.SearchEnd.{SearchEnd}
 use Rattle.search.specs.declared.SearchEnd.the-variants as M
 use Rattle.search.specs.Answers.{told, roads-in}
@@ -52,7 +52,7 @@ middle-found f cost way n e long = rw e (take-all n way (omega (arith, long)))
 -- ---- the better of the best so far and a path, by the test of their scores
 
 module _ (best next : Best) (t : Bool) (e : (search : MiddleSearch) → cond t (best-of search next) (best-of search best) ≡ improve (best-of search best) (best-of search next)) (search : MiddleSearch) (nodes : ℕ) where
-  pub next-taken : t ≡ true → Remembers search nodes (next .route .middle) → TurnIs best (record { phase = H.On; best = next }) search nodes (goes-on (improve (best-of search best) (best-of search next)))
+  pub next-taken : t ≡ true → Remembers search nodes (next .path .middle) → TurnIs best (record { phase = H.On; best = next }) search nodes (goes-on (improve (best-of search best) (best-of search next)))
   unfolding turn-of
   next-taken w h = record { means = ap goes-on (rw w at (e search)); remembers = λ old. h }
 
@@ -78,14 +78,14 @@ module _ (b : Limits) (q : Pair) (best : Best) (search : MiddleSearch) (nodes : 
   -- a way from `from` to `to` within the bound
   module _ (from to : ℕ) (bound : Float) (first : from < nodes) (last : to < nodes) where
     pub by-found : (cost : Float) (n : ℕ) → M.Found cost n ≡ told (search from to bound)
-        → (next : Best) → next .route .middle ≡ record { start = from; goal = to; bound = bound; count = n } → ((search : MiddleSearch) (way : List Road) → search from to bound ≡ found cost way → length way ≡ n → best-of search next ≡ scored-over b q cost way)
-        → (r : PairTurn) → ((search : MiddleSearch) (nodes : ℕ) → Remembers search nodes (next .route .middle) → TurnIs best r search nodes (goes-on (improve (best-of search best) (best-of search next))))
+        → (next : Best) → next .path .middle ≡ record { start = from; goal = to; bound = bound; count = n } → ((search : MiddleSearch) (way : List Road) → search from to bound ≡ found cost way → length way ≡ n → best-of search next ≡ scored-over b q cost way)
+        → (r : PairTurn) → ((search : MiddleSearch) (nodes : ℕ) → Remembers search nodes (next .path .middle) → TurnIs best r search nodes (goes-on (improve (best-of search best) (best-of search next))))
         → AfterSearch (search from to bound) r
     unfolding after-search roads-in
     by-found cost n e next middle is r better =
         let w = told-found (search from to bound) cost n e in
         let found-so = w .1 in
-        let holds : Remembers search nodes (next .route .middle) = subst (Remembers search nodes) (sym middle) (λ some. (first, last, ap (λ (f : astar.SearchEnd). length (roads-in f)) found-so ∙ w .2)) in
+        let holds : Remembers search nodes (next .path .middle) = subst (Remembers search nodes) (sym middle) (λ some. (first, last, ap (λ (f : astar.SearchEnd). length (roads-in f)) found-so ∙ w .2)) in
         let g = better search nodes holds in
         record {
           means = g .means ∙ ap (λ s. goes-on (improve (best-of search best) s)) (is search (w .0) found-so (w .2)) ∙ sym (ap (after-search b q (best-of search best)) found-so);
@@ -102,8 +102,8 @@ module _ (b : Limits) (q : Pair) (best : Best) (search : MiddleSearch) (nodes : 
     unfolding after-pair pair-plan-of turn-of
     by-nothing e = record { means = rw e; remembers = λ old. old }
 
-    pub by-same-edge : (way next : Best) → p ≡ P.SameEdge way → next .route .middle .count ≡ 0 → ((search : MiddleSearch) → best-of search next ≡ best-of no-seek way)
-        → (r : PairTurn) → ((search : MiddleSearch) (nodes : ℕ) → Remembers search nodes (next .route .middle) → TurnIs best r search nodes (goes-on (improve (best-of search best) (best-of search next)))) → AfterPair r
+    pub by-same-edge : (way next : Best) → p ≡ P.SameEdge way → next .path .middle .count ≡ 0 → ((search : MiddleSearch) → best-of search next ≡ best-of no-search way)
+        → (r : PairTurn) → ((search : MiddleSearch) (nodes : ℕ) → Remembers search nodes (next .path .middle) → TurnIs best r search nodes (goes-on (improve (best-of search best) (best-of search next)))) → AfterPair r
     unfolding after-pair pair-plan-of
     by-same-edge way next e zero same r better =
         let g = better search nodes (λ some. absurd (omega arith)) in

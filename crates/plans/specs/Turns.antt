@@ -9,7 +9,7 @@ use Rattle.model.specs.Legs.{Scored, skip, same-edge, by-search, MiddleSearch, 
 use Rattle.model.specs.Legs as legs
 use Rattle.rules.specs.declared.Middle.{Middle}
 use Rattle.rules.specs.declared.Best.{Best}
-use Rattle.rules.specs.Code.{no-seek, best-of}
+use Rattle.rules.specs.Code.{no-search, best-of}
 use Rattle.search.specs.Answers.{roads-in}
 use Rattle.plans.specs.declared.PairPlan.{PairPlan}
 use Rattle.plans.specs.declared.PairPlan.the-variants as P
@@ -22,7 +22,7 @@ use Rattle.plans.specs.declared.PairTurn.{PairTurn}
 -- a path on one road has no middle
 unfoldable pub pair-plan-of : PairPlan → legs.PairPlan
 pair-plan-of P.Skip = skip
-pair-plan-of (P.SameEdge b) = same-edge (best-of no-seek b)
+pair-plan-of (P.SameEdge b) = same-edge (best-of no-search b)
 pair-plan-of (P.Search bound) = by-search bound
 
 -- what a search within a bound finds, where one is needed
@@ -41,4 +41,4 @@ Remembers search nodes m = 0 < m .count → (m .start < nodes) × (m .goal < nod
 -- from the best so far, r comes to the turn w, and remembers its search
 pub record TurnIs (best : Best) (r : PairTurn) (search : MiddleSearch) (nodes : ℕ) (w : Turn) : Type 0 where
   pub means : turn-of (r .phase) (best-of search (r .best)) ≡ w
-  pub remembers : Remembers search nodes (best .route .middle) → Remembers search nodes (r .best .route .middle)
+  pub remembers : Remembers search nodes (best .path .middle) → Remembers search nodes (r .best .path .middle)

@@ -77,7 +77,7 @@ fn scored_over(
     cost: f64,
     n: usize,
 ) -> Best
-    ensures { λ r. ⌜ (r .route .middle ≡ record { start = first .target; goal = last .source; bound = bound; count = n }) × ((search : MiddleSearch) (way : List Road) → search (first .target) (last .source) bound ≡ found cost way → length way ≡ n → best-of search r ≡ scored-over b (pair-as start first end last) cost way) ⌝ }
+    ensures { λ r. ⌜ (r .path .middle ≡ record { start = first .target; goal = last .source; bound = bound; count = n }) × ((search : MiddleSearch) (way : List Road) → search (first .target) (last .source) bound ≡ found cost way → length way ≡ n → best-of search r ≡ scored-over b (pair-as start first end last) cost way) ⌝ }
 {
     let start_part = lengths::end_offset(start, first);
     let end_part = lengths::start_offset(end, last);
@@ -117,7 +117,7 @@ fn scored_over(
 
 // The better of the best so far and a path.
 fn take_better(best: Best, next: Best) -> PairTurn
-    ensures { λ r. ⌜ ((search : MiddleSearch) (nodes : ℕ) → Remembers search nodes (next .route .middle) → TurnIs best r search nodes (goes-on (improve (best-of search best) (best-of search next)))) ⌝ }
+    ensures { λ r. ⌜ ((search : MiddleSearch) (nodes : ℕ) → Remembers search nodes (next .path .middle) → TurnIs best r search nodes (goes-on (improve (best-of search best) (best-of search next)))) ⌝ }
 {
     if routes::improves(best, next) {
         return PairTurn {

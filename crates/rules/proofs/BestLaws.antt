@@ -11,7 +11,7 @@ use Rattle.model.specs.Lists.{when}
 use Rattle.model.specs.Legs.{Scored, MiddleSearch, best-score, improve, first-or-better}
 use Rattle.search.specs.Answers.{roads-in}
 use Rattle.rules.specs.declared.Best.{Best}
-use Rattle.rules.specs.Code.{with-middle, no-middle, middle-in, no-seek, best-of}
+use Rattle.rules.specs.Code.{with-middle, no-middle, middle-in, no-search, best-of}
 
 module _ (search : MiddleSearch) (b : Best) where
   abbrev pub as-scored : Scored
@@ -68,6 +68,6 @@ module _ (search : MiddleSearch) (best next : Best) where
 
 -- the path on its terminal roads is the path where nothing is found
 pub terminals-alone : (b : Best) (search : MiddleSearch)
-    → best-of search (record { found = b .found; score = b .score; path = record { «total_length» = b .path .«total_length»; «start_offset_m» = b .path .«start_offset_m»; «end_offset_m» = b .path .«end_offset_m»; head = b .path .head; middle = no-middle; tail = b .path .tail } }) ≡ best-of no-seek b
+    → best-of search (record { found = b .found; score = b .score; path = record { «total_length» = b .path .«total_length»; «start_offset_m» = b .path .«start_offset_m»; «end_offset_m» = b .path .«end_offset_m»; head = b .path .head; middle = no-middle; tail = b .path .tail } }) ≡ best-of no-search b
 unfolding best-of middle-in roads-in
 terminals-alone b search = ap (λ (l : List Road). when (b .found) record { path = with-middle (b .path) l; score = b .score }) (sym (take-nil (b .path .middle .count)))

@@ -40,8 +40,8 @@ no-middle = record { start = 0; goal = 0; bound = f0; count = 0 }
 unfoldable pub middle-in : MiddleSearch → Middle → List Road
 middle-in search m = take (m .count) (roads-in (search (m .start) (m .goal) (m .bound)))
 
-abbrev pub no-seek : MiddleSearch
-no-seek start goal bound = none-found
+abbrev pub no-search : MiddleSearch
+no-search start goal bound = none-found
 
 unfoldable pub best-of : MiddleSearch → Best → Option Scored
 best-of search b = when (b .found) record { path = with-middle (b .path) (middle-in search (b .path .middle)); score = b .score }

@@ -3,7 +3,7 @@ ghost use mathlib.Core.Path.{_≡_};
 ghost use mathlib.Core.Bool.{cond};
 ghost use mathlib.Core.Option.{none};
 ghost use Rattle.model.specs.Legs.{MiddleSearch, same-edge-scored, best-score, improve, first-or-better};
-ghost use Rattle.rules.specs.Code.{pair-as, no-middle, no-seek, best-of, BestIs};
+ghost use Rattle.rules.specs.Code.{pair-as, no-middle, no-search, best-of, BestIs};
 use crate::Best;
 use crate::Middle;
 use crate::PathResult;
@@ -27,7 +27,7 @@ fn no_middle() -> Middle
 
 // No path yet.
 pub fn no_best() -> Best
-    ensures { λ r. ⌜ BestIs r none × (r .route .middle .count ≡ 0) ⌝ }
+    ensures { λ r. ⌜ BestIs r none × (r .path .middle .count ≡ 0) ⌝ }
 {
     let road = Road {
         number: 0,
@@ -138,7 +138,7 @@ pub fn first_or_better(best: Best, next: Best) -> Best
 
 // The path on its terminal roads alone.
 pub fn without_middle(b: Best) -> Best
-    ensures { λ r. ⌜ (r .route .middle .count ≡ 0) × ((search : MiddleSearch) → best-of search r ≡ best-of no-seek b) ⌝ }
+    ensures { λ r. ⌜ (r .path .middle .count ≡ 0) × ((search : MiddleSearch) → best-of search r ≡ best-of no-search b) ⌝ }
 {
     let route = b.path;
     let head = route.head;
@@ -149,8 +149,8 @@ pub fn without_middle(b: Best) -> Best
         score: b.score,
         path: PathResult {
             total_length: route.total_length,
-            start_offset_m: route.start_offset,
-            end_offset_m: route.end_offset,
+            start_offset_m: route.start_offset_m,
+            end_offset_m: route.end_offset_m,
             head,
             middle,
             tail,

@@ -1,5 +1,5 @@
 use mathlib.Core.Path.{sym, ap, _∙_}
-use Rattle.rules.specs.Code.{no-seek}
+use Rattle.rules.specs.Code.{no-search}
 use borrow.Author.Tests.{not-true, not-false}
 use borrow.Author.Needs.{needs}
 use Rattle.model.specs.Legs.{same-edge}
@@ -27,7 +27,7 @@ same-edge-scored-requires c κs = search needs
 
 returns-3 : tie.Need-returns-3
 unfolding pair-plan-of
-returns-3 c = ap same-edge (c .same-edge-scored .ensures no-seek)
+returns-3 c = ap same-edge (c .same-edge-scored .ensures no-search)
     ∙ plan-same-edge _ _ (sym (c .before .before .before .before .before .before .before .permits .ensures) ∙ not-false _ (c .before .before .before .before .before .before .if1 .left)) (sym (c .before .before .before .before .before .permits2 .ensures) ∙ not-false _ (c .before .before .before .before .if2 .left)) (c .before .if3 .taken)
 
 middle-max-requires : tie.Need-middle-max-requires
