@@ -69,7 +69,7 @@ fn decode_sheet(
         ≡ answered (sheet-of (now (s .entry)) c) (lists (now (ids .entry)) (now (lengths .entry))) (outcome (view (sheet-of (now (s .entry)) c)) (bounded-astar slots)) ⌝ }
 {
     let set = points::settings(s, c);
-    let out = references::decode_legs(
+    let out = location::decode_legs(
         s,
         c,
         slots,
@@ -81,7 +81,7 @@ fn decode_sheet(
         coverage,
         ids,
     );
-    finish::answer(s, c, set, out, covered, coverage, ids, lengths)
+    finalize::answer(s, c, set, out, covered, coverage, ids, lengths)
 }
 
 // One call, on any bytes and any areas. Refusals 1 to 6 leave both answer lists untouched; 7 to 11 zero them; a match zeroes the entries after the path. What stands in the work areas before has no part in the answer. What stands there afterwards is the program's choice: their lengths stay, and no later call reads it before writing.

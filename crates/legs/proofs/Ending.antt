@@ -15,9 +15,9 @@ use Rattle.model.specs.Legs as legs
 use Rattle.rules.specs.declared.Best.{Best}
 use Rattle.rules.specs.Code.{no-search, best-of, BestIs}
 use Rattle.rules.proofs.BestLaws.{best-none, best-some}
-use Rattle.plans.specs.declared.Phase.the-variants as H
-use Rattle.plans.specs.declared.PairTurn.{PairTurn}
-use Rattle.plans.specs.Turns.{turn-of, Remembers}
+use Rattle.pair_plans.specs.declared.Phase.the-variants as H
+use Rattle.pair_plans.specs.declared.PairTurn.{PairTurn}
+use Rattle.pair_plans.specs.Turns.{turn-of, Remembers}
 use Rattle.legs.specs.declared.LegEnd.{LegEnd}
 use Rattle.legs.specs.declared.LegEnd.the-variants as S
 use Rattle.legs.specs.Found.{end-after-pairs, leg-end-of, winner-of, Led}

@@ -13,10 +13,10 @@ use Rattle.model.specs.Numbers.{_≤ᶠ_}
 use Rattle.model.specs.Legs.{Pair, Scored, MiddleSearch, Turn, best-score, leg-end, next-pair, try-pair, end-or-try, try-pairs}
 use Rattle.rules.specs.declared.Best.{Best}
 use Rattle.rules.specs.Code.{best-of, BestIs}
-use Rattle.plans.specs.declared.Phase.{Phase}
-use Rattle.plans.specs.declared.Phase.the-variants as H
-use Rattle.plans.specs.declared.PairTurn.{PairTurn}
-use Rattle.plans.specs.Turns.{turn-of, Remembers}
+use Rattle.pair_plans.specs.declared.Phase.{Phase}
+use Rattle.pair_plans.specs.declared.Phase.the-variants as H
+use Rattle.pair_plans.specs.declared.PairTurn.{PairTurn}
+use Rattle.pair_plans.specs.Turns.{turn-of, Remembers}
 use Rattle.legs.specs.Found.{end-after-pairs, place-after}
 
 module _ (b : Limits) (search : MiddleSearch) (ps : List Pair) where

@@ -21,9 +21,9 @@ use Rattle.model.specs.Legs.{MiddleSearch}
 use Rattle.model.specs.Decode.{query-of, middle-search}
 use Rattle.rules.specs.declared.Middle.{Middle}
 use Rattle.rules.specs.Code.{middle-in}
-use Rattle.plans.specs.declared.SearchNeed.{SearchNeed}
-use Rattle.plans.specs.declared.SearchNeed.the-variants as A
-use Rattle.plans.specs.Turns.{by-need}
+use Rattle.pair_plans.specs.declared.SearchNeed.{SearchNeed}
+use Rattle.pair_plans.specs.declared.SearchNeed.the-variants as A
+use Rattle.pair_plans.specs.Turns.{by-need}
 use Rattle.search.specs.declared.SearchEnd.{SearchEnd}
 use Rattle.search.specs.declared.SearchEnd.the-variants as S
 use Rattle.search.specs.Query.{query-on}

@@ -17,10 +17,10 @@ use Rattle.model.specs.Decode.{middle-search}
 use Rattle.bounds.specs.Amounts.{Amount}
 use Rattle.rules.specs.declared.Middle.{Middle}
 use Rattle.rules.specs.Code.{with-middle, no-middle, middle-in, best-of}
-use Rattle.plans.specs.declared.Phase.{Phase}
-use Rattle.plans.specs.declared.Phase.the-variants as H
-use Rattle.plans.specs.declared.PairTurn.{PairTurn}
-use Rattle.plans.specs.Turns.{turn-of}
+use Rattle.pair_plans.specs.declared.Phase.{Phase}
+use Rattle.pair_plans.specs.declared.Phase.the-variants as H
+use Rattle.pair_plans.specs.declared.PairTurn.{PairTurn}
+use Rattle.pair_plans.specs.Turns.{turn-of}
 use Rattle.search.specs.declared.SearchEnd.{SearchEnd}
 use Rattle.search.specs.declared.SearchEnd.the-variants as E
 use Rattle.search.specs.Answers.{told, WayBack}

@@ -1,7 +1,7 @@
 // What lies between two roads of a pair: known without a search, or found by one.
 use model::Counts;
 use model::Limits;
-use plans::SearchNeed;
+use pair_plans::SearchNeed;
 use rules::Middle;
 use search::SearchEnd;
 ghost use mathlib.Core.Path.{_≡_};
@@ -15,7 +15,7 @@ ghost use Rattle.model.specs.Judge.{WellFormed};
 ghost use Rattle.model.specs.Sheet.{sheet-of};
 ghost use Rattle.model.specs.Search.{found};
 ghost use Rattle.model.specs.Search as astar;
-ghost use Rattle.plans.specs.Turns.{by-need, Remembers};
+ghost use Rattle.pair_plans.specs.Turns.{by-need, Remembers};
 ghost use Rattle.rules.specs.Code.{middle-in};
 ghost use Rattle.search.specs.Areas.{SearchRoom};
 ghost use Rattle.search.specs.Answers.{told, roads-in, WayBack};

@@ -18,9 +18,9 @@ use Rattle.model.specs.Legs.{EdgeCoverage, PathResult, LegEnd, best, no-path, h
 use Rattle.model.specs.Decode.{FullPath, no-path-yet, roads-of, segment-of, extended, path-of-leg, Outcome, refused, with-primary, after-leg}
 use Rattle.model.specs.Decode as decode
 use Rattle.model.specs.Call.{most-entries}
-use Rattle.courses.specs.Left.{unwritten, coverages-at, cover-all}
-use Rattle.courses.proofs.Writing.{skip-none}
-use Rattle.courses.proofs.Appended.{append-numbers}
+use Rattle.full_path.specs.Left.{unwritten, coverages-at, cover-all}
+use Rattle.full_path.proofs.Writing.{skip-none}
+use Rattle.full_path.proofs.Appended.{append-numbers}
 use Rattle.lines.specs.declared.WrittenLeg.{WrittenLeg}
 use Rattle.lines.specs.declared.LegWritten.{LegWritten}
 use Rattle.lines.specs.declared.LegWritten.the-variants as E

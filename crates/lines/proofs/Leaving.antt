@@ -28,9 +28,9 @@ use Rattle.legs.specs.declared.LegEnd.the-variants as S
 use Rattle.legs.specs.Found.{middle-search-at, Priced}
 use Rattle.search.specs.Answers.{RoadNumbers}
 use Rattle.search.proofs.Roads.{slip-amount, access-amount}
-use Rattle.courses.specs.Left.{path-of, covers, middle-numbers, Walkable, size-of, Known, coverage-numbers, numbers-of, unwritten, Appended, coverages-at, cover-all}
-use Rattle.courses.proofs.Lookup.{numbers-long, numbers-size, size-few}
-use Rattle.courses.proofs.Appended.{numbers-are, numbers-of-roads}
+use Rattle.full_path.specs.Left.{path-of, covers, middle-numbers, Walkable, size-of, Known, coverage-numbers, numbers-of, unwritten, Appended, coverages-at, cover-all}
+use Rattle.full_path.proofs.Lookup.{numbers-long, numbers-size, size-few}
+use Rattle.full_path.proofs.Appended.{numbers-are, numbers-of-roads}
 use Rattle.lines.specs.declared.LegWritten.the-variants as E
 use Rattle.lines.specs.Legs.{leg-limits, leg-end-from, leg-end-by, KnownAs, LegEndWritten}
 

@@ -35,7 +35,7 @@ use Rattle.search.proofs.Walks.{back-size}
 use Rattle.legs.specs.declared.LegEnd as legs
 use Rattle.legs.specs.declared.LegEnd.the-variants as S
 use Rattle.legs.specs.Found.{middle-search-at, leg-end-of, winner-of, Led}
-use Rattle.courses.specs.Left.{path-of, middle-numbers}
+use Rattle.full_path.specs.Left.{path-of, middle-numbers}
 use Rattle.lines.specs.Legs.{leg-end-from, leg-end-by, KnownAs}
 use Rattle.lines.proofs.Sequence.{leg-from, legs-are}
 

@@ -23,7 +23,7 @@ use Rattle.legs.specs.Found.{middle-search-at}
 use Rattle.legs.specs.declared.LegEnd as legs
 use Rattle.legs.specs.declared.LegEnd.the-variants as S
 use Rattle.search.specs.Answers.{RoadNumbers}
-use Rattle.courses.specs.Left.{path-of, middle-numbers, Walkable, Known, unwritten, coverages-at, cover-all}
+use Rattle.full_path.specs.Left.{path-of, middle-numbers, Walkable, Known, unwritten, coverages-at, cover-all}
 use Rattle.lines.specs.declared.SegmentInfo.{SegmentInfo}
 use Rattle.lines.specs.declared.WrittenLeg.{WrittenLeg}
 use Rattle.lines.specs.declared.LegWritten.{LegWritten}

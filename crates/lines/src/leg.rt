@@ -2,8 +2,8 @@
 use crate::LegWritten;
 use crate::SegmentInfo;
 use crate::WrittenLeg;
-use courses::coverage;
-use courses::path;
+use full_path::coverage;
+use full_path::path;
 use legs::LegEnd;
 use model::Counts;
 use model::Limits;
@@ -16,7 +16,7 @@ ghost use lib.ListN.{length};
 ghost use Rattle.model.specs.Judge.{WellFormed};
 ghost use Rattle.model.specs.Sheet.{sheet-of};
 ghost use Rattle.search.specs.Answers.{RoadNumbers};
-ghost use Rattle.courses.specs.Left.{coverages-at};
+ghost use Rattle.full_path.specs.Left.{coverages-at};
 ghost use Rattle.lines.specs.Legs.{leg-limits, leg-end-by, KnownAs, LegEndWritten};
 
 // What the leg from point i accepts.

@@ -3,7 +3,7 @@ use Rattle.search.proofs.Growth.{sized-on}
 use Rattle.legs.proofs.InOrder.{ten-pairs}
 use Rattle.legs.proofs.Ending.{outright, by-pairs, alone-led}
 use Rattle.legs.specs.Found.{middle-search-at, winner-of, Led}
-use Rattle.plans.specs.Turns.{Remembers}
+use Rattle.pair_plans.specs.Turns.{Remembers}
 use Rattle.rules.specs.declared.Middle.{Middle}
 use Rattle.candidates.specs.Found.{held}
 use Rattle.model.specs.Legs.{Pair, try-same-edge-solution, try-pairs, by-sum}

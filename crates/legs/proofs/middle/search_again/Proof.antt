@@ -1,5 +1,5 @@
 use Rattle.legs.proofs.Middles.{led-again}
-use Rattle.plans.specs.Turns.{by-need}
+use Rattle.pair_plans.specs.Turns.{by-need}
 use Rattle.legs.specs.Found.{middle-search-at}
 use Rattle.model.specs.Sheet.{sheet-of}
 use native.Mathlib.Omega.{arith}

@@ -1,6 +1,6 @@
 use Rattle.rules.specs.Code.{pair-as}
 use Rattle.legs.specs.Found.{middle-search-at}
-use Rattle.plans.proofs.Trying.{asked-so, one-pair}
+use Rattle.pair_plans.proofs.Trying.{asked-so, one-pair}
 use Rattle.model.specs.Sheet.{sheet-of}
 use Rattle.model.specs.declared.Road.{Road}
 use mathlib.Core.Path.{_≡_, sym}
@@ -9,9 +9,9 @@ use Rattle.legs.proofs.tries.try_pair.Statement.{statement}
 use Rattle.legs.proofs.tries.try_pair.Tie as tie
 use Rattle.legs.proofs.tries.try_pair.Reads as reads
 use Rattle.legs.proofs.middle.middle.Reads as middle-reads
-use Rattle.plans.proofs.turns.search_need.Reads as ask-reads
-use Rattle.plans.proofs.turns.plan_pair.Reads as plan-reads
-use Rattle.plans.proofs.turns.finish_pair.Reads as settle-reads
+use Rattle.pair_plans.proofs.turns.search_need.Reads as ask-reads
+use Rattle.pair_plans.proofs.turns.plan_pair.Reads as plan-reads
+use Rattle.pair_plans.proofs.turns.finish_pair.Reads as settle-reads
 use Rattle.sheet.proofs.roads.road.Reads as road-reads
 
 -- src/tries.rt:49:9

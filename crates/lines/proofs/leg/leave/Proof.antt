@@ -1,6 +1,6 @@
 use Rattle.lines.proofs.Leaving.{known-route, known-tail, covers-tail, leg-written-route, leg-written-none, leg-written-full}
-use Rattle.courses.proofs.Lookup.{numbers-size, size-few}
-use Rattle.courses.specs.Left.{middle-numbers, numbers-of, cover-all, coverages-at}
+use Rattle.full_path.proofs.Lookup.{numbers-size, size-few}
+use Rattle.full_path.specs.Left.{middle-numbers, numbers-of, cover-all, coverages-at}
 use Rattle.model.specs.Sheet.{sheet-of}
 use native.Mathlib.Omega.{arith}
 use lib.ListN.{length, drop, length-drop}
@@ -11,10 +11,10 @@ use borrow.Author.Needs.{needs}
 use Rattle.lines.proofs.leg.leave.Statement.{statement}
 use Rattle.lines.proofs.leg.leave.Tie as tie
 use Rattle.lines.proofs.leg.leave.Reads as reads
-use Rattle.courses.proofs.coverage.cover_leg.Reads as cover-leg-reads
-use Rattle.courses.proofs.path.append_leg.Reads as append-leg-reads
-use Rattle.courses.proofs.path.count_roads.Reads as count-roads-reads
-use Rattle.courses.proofs.path.terminals.Reads as terminals-reads
+use Rattle.full_path.proofs.coverage.cover_leg.Reads as cover-leg-reads
+use Rattle.full_path.proofs.path.append_leg.Reads as append-leg-reads
+use Rattle.full_path.proofs.path.count_roads.Reads as count-roads-reads
+use Rattle.full_path.proofs.path.terminals.Reads as terminals-reads
 
 -- src/leg.rt:51:22
 enum-known-found : tie.Need-enum-known-found
