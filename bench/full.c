@@ -84,12 +84,12 @@ static size_t make(uint8_t *b, int hard) {
 enum { SLOTS = 1 << 15, LIST = (P + 4) * (N + 1) };
 
 static double labels[2 * N], entries[2 * SLOTS], coverage[LIST], lengths[LIST];
-static size_t came_from[N], route[N + 1], best_route[N + 1], links[2 * SLOTS], covered[LIST];
+static size_t came_from[N], links[2 * SLOTS], covered[LIST];
 static uint64_t ids[LIST];
 
 static HemokatuAnswered decode(const uint8_t *b, size_t len) {
-    return hemokatu_decode(b, len, labels, 2 * N, came_from, N, route, N + 1, best_route, N + 1, entries, 2 * SLOTS, links, 2 * SLOTS, covered,
-                           LIST, coverage, LIST, ids, LIST, lengths, LIST);
+    return hemokatu_decode(b, len, labels, 2 * N, came_from, N, entries, 2 * SLOTS, links, 2 * SLOTS, covered, LIST, coverage, LIST, ids, LIST,
+                           lengths, LIST);
 }
 
 typedef struct {

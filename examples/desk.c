@@ -9,18 +9,16 @@
 
 enum {
     NODES = HEMOKATU_MOST_NODES,
-    ROUTE = NODES + 1,
     LIST = (HEMOKATU_MOST_POINTS + 4) * (NODES + 1),
     HEAP = 4096,           // slots at first
     MOST_HEAP = 1024 * 1024 // 32 MiB
 };
 
-// Room for every sheet there is, 696,976 bytes, and the heap beside it. A host with less asks hemokatu_sizes what its
+// Room for every sheet there is, 680,576 bytes, and the heap beside it. A host with less asks hemokatu_sizes what its
 // sheet needs.
 typedef struct {
     double labels[2 * NODES];
     size_t came_from[NODES];
-    size_t route[ROUTE], best_route[ROUTE];
     size_t covered[LIST];
     double coverage[LIST];
     uint64_t ids[LIST];
@@ -42,8 +40,8 @@ static bool heap_of(size_t slots, Heap *heap) {
 }
 
 static HemokatuAnswered decode_with(const uint8_t *sheet, size_t len, Areas *w, const Heap *h) {
-    return hemokatu_decode(sheet, len, w->labels, 2 * NODES, w->came_from, NODES, w->route, ROUTE, w->best_route, ROUTE, h->entries,
-                           2 * h->slots, h->links, 2 * h->slots, w->covered, LIST, w->coverage, LIST, w->ids, LIST, w->lengths, LIST);
+    return hemokatu_decode(sheet, len, w->labels, 2 * NODES, w->came_from, NODES, h->entries, 2 * h->slots, h->links, 2 * h->slots, w->covered,
+                           LIST, w->coverage, LIST, w->ids, LIST, w->lengths, LIST);
 }
 
 // With a heap of twice the slots as long as a search uses it up. False where there is no memory.

@@ -33,7 +33,7 @@ static Room fenced(size_t bytes, int protection, int flags, int file) {
 }
 
 static size_t wanted_entries(int area) {
-    if (area <= BEST_ROUTE) return 2 * HEMOKATU_MOST_NODES + 64;
+    if (area <= CAME_FROM) return 2 * HEMOKATU_MOST_NODES + 64;
     if (area <= LINKS) return 1 << 15;
     return (HEMOKATU_MOST_POINTS + 4) * (HEMOKATU_MOST_NODES + 1) + 64;
 }

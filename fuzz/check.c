@@ -33,7 +33,7 @@ static int zero_from(const Lent *c, int list, size_t from) {
 
 static int has_room(const Lent *c) {
     for (int i = 0; i < AREAS; i++) {
-        size_t least = i == LABELS ? 2 * need.node : i == CAME_FROM ? need.node : i <= BEST_ROUTE ? need.route : i <= LINKS ? 2 * need.heap_least : need.list;
+        size_t least = i == LABELS ? 2 * need.node : i == CAME_FROM ? need.node : i <= LINKS ? 2 * need.heap_least : need.list;
         if (c->entries[i] < least) return 0;
     }
     return 1;
@@ -91,7 +91,7 @@ static const char *refusal_fault(const Lent *c, const HemokatuAnswered *r) {
 int sizes_right(size_t points, size_t nodes) {
     HemokatuSizes s = hemokatu_sizes(points, nodes);
     size_t known = points <= HEMOKATU_MOST_POINTS && nodes <= HEMOKATU_MOST_NODES;
-    return s.node == known * nodes && s.route == known * (nodes + 1) && s.heap_least == known && s.list == known * (points + 4) * (nodes + 1);
+    return s.node == known * nodes && s.heap_least == known && s.list == known * (points + 4) * (nodes + 1);
 }
 
 // which refusal comes, as far as judge, counts and sizes tell

@@ -3,11 +3,10 @@
 #include <stdlib.h>
 #include <string.h>
 
-#define SLICES                                                                                                                   \
-    const uint8_t *sheet, size_t sheet_len, double *labels, size_t labels_len, size_t *came_from, size_t came_from_len, size_t *route,  \
-        size_t route_len, size_t *best_route, size_t best_route_len, double *entries, size_t entries_len, size_t *links,                \
-        size_t links_len, size_t *covered, size_t covered_len, double *coverage, size_t coverage_len, uint64_t *ids, size_t ids_len,    \
-        double *lengths, size_t lengths_len
+#define SLICES                                                                                                                           \
+    const uint8_t *sheet, size_t sheet_len, double *labels, size_t labels_len, size_t *came_from, size_t came_from_len, double *entries, \
+        size_t entries_len, size_t *links, size_t links_len, size_t *covered, size_t covered_len, double *coverage, size_t coverage_len, \
+        uint64_t *ids, size_t ids_len, double *lengths, size_t lengths_len
 
 HemokatuAnswered __real_hemokatu_decode(SLICES);
 HemokatuAnswered __wrap_hemokatu_decode(SLICES);
@@ -42,13 +41,13 @@ static void tell(HemokatuAnswered *r, double old) {
 // faults of memory and of the lists
 HemokatuAnswered __wrap_hemokatu_decode(SLICES) {
     double old = labels_len ? labels[0] : 0;
-    HemokatuAnswered r = __real_hemokatu_decode(sheet, sheet_len, labels, labels_len, came_from, came_from_len, route, route_len, best_route,
-                                                best_route_len, entries, entries_len, links, links_len, covered, covered_len, coverage,
-                                                coverage_len, ids, ids_len, lengths, lengths_len);
+    HemokatuAnswered r = __real_hemokatu_decode(sheet, sheet_len, labels, labels_len, came_from, came_from_len, entries, entries_len, links,
+                                                links_len, covered, covered_len, coverage, coverage_len, ids, ids_len, lengths,
+                                                lengths_len);
     int matched = r.number == HEMOKATU_MATCHED;
     if (is("labels-one-before") && matched) labels[-1] = 0;
-    if (is("route-one-behind") && matched) route[route_len] = 0;
-    if (is("best-route-one-behind") && matched) best_route[best_route_len] = 1;
+    if (is("came-from-one-behind") && matched) came_from[came_from_len] = 0;
+    if (is("covered-one-behind") && matched) covered[covered_len] = 1;
     if (is("links-read-behind") && matched) seen = (uint8_t)links[links_len];
     if (is("coverage-read-before") && matched) seen = (uint8_t)((uint64_t *)coverage)[-1];
     if (is("ids-one-before") && matched) ids[-1] = 0;

@@ -23,9 +23,8 @@ static HemokatuAnswered decode(const Lent *c) {
     void *const *p = c->at;
     const size_t *n = c->entries;
     fill_lists(c);
-    return hemokatu_decode(c->sheet, c->sheet_len, p[LABELS], n[LABELS], p[CAME_FROM], n[CAME_FROM], p[ROUTE], n[ROUTE], p[BEST_ROUTE], n[BEST_ROUTE],
-                           p[ENTRIES], n[ENTRIES], p[LINKS], n[LINKS], p[COVERED], n[COVERED], p[COVERAGE], n[COVERAGE], p[IDS], n[IDS], p[LENGTHS],
-                           n[LENGTHS]);
+    return hemokatu_decode(c->sheet, c->sheet_len, p[LABELS], n[LABELS], p[CAME_FROM], n[CAME_FROM], p[ENTRIES], n[ENTRIES], p[LINKS], n[LINKS],
+                           p[COVERED], n[COVERED], p[COVERAGE], n[COVERAGE], p[IDS], n[IDS], p[LENGTHS], n[LENGTHS]);
 }
 
 // what stands in the work areas before a call
@@ -85,7 +84,7 @@ static void draw_sizes(Lent *c, size_t points, size_t nodes) {
     size_t heap = one_in(3) ? 1 + below(16) : 256 + below(256);
     if (nodes > 24 && !one_in(4)) heap = 1 << 13;
     for (int i = 0; i < AREAS; i++) {
-        size_t n = i == LABELS ? 2 * least.node : i == CAME_FROM ? least.node : i <= BEST_ROUTE ? least.route : i <= LINKS ? 2 * heap : least.list;
+        size_t n = i == LABELS ? 2 * least.node : i == CAME_FROM ? least.node : i <= LINKS ? 2 * heap : least.list;
         n = one_size(n, mode < 8 ? 0 : mode < 14 ? 1 : 2);
         if (mode == 0 && other == (uint32_t)i) n = n ? n - 1 : 0;
         if (mode == 1 && other == (uint32_t)i && one_in(64)) n = most_entries(i);

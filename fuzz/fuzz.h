@@ -39,7 +39,7 @@ size_t damage(uint8_t *b, size_t len, size_t room);
 
 // ---- areas.c: memory between pages that fault
 
-enum { LABELS, CAME_FROM, ROUTE, BEST_ROUTE, ENTRIES, LINKS, COVERED, COVERAGE, IDS, LENGTHS, AREAS };
+enum { LABELS, CAME_FROM, ENTRIES, LINKS, COVERED, COVERAGE, IDS, LENGTHS, AREAS };
 
 // What is lent in one call. Each slice touches a page that faults, behind it or before it.
 typedef struct {

@@ -164,7 +164,6 @@ typedef struct {
 /* The entries that each area must have. An entry has two numbers in labels, entries and links, so those are twice as long. */
 typedef struct {
     size_t node;       /* labels (twice), came_from */
-    size_t route;      /* route, best_route */
     size_t heap_least; /* entries (twice), links (twice): more let larger searches end */
     size_t list;       /* covered, coverage, ids, lengths */
 } HemokatuSizes;
@@ -222,8 +221,6 @@ HemokatuAnswered hemokatu_decode(
     const uint8_t *sheet, size_t sheet_len,        /* the sheet, only read */
     double *labels, size_t labels_len,             /* 2 x node: a search's metres to each node, then the same with penalties */
     size_t *came_from, size_t came_from_len,       /* the road by which it came to each node */
-    size_t *route, size_t route_len,               /* the roads of the pair in hand */
-    size_t *best_route, size_t best_route_len,     /* the roads of the best pair so far */
     double *entries, size_t entries_len,           /* 2 x heap: what its entries are ordered by, then their penalised metres */
     size_t *links, size_t links_len,               /* 2 x heap: the heap of their numbers, then their nodes */
     size_t *covered, size_t covered_len,           /* the roads covered, in order of first traversal, */

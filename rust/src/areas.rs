@@ -8,8 +8,6 @@ use crate::Sizes;
 pub struct Areas {
     labels: Vec<f64>,
     came_from: Vec<usize>,
-    route: Vec<usize>,
-    best_route: Vec<usize>,
     entries: Vec<f64>,
     links: Vec<usize>,
     covered: Vec<usize>,
@@ -24,8 +22,6 @@ impl Areas {
         let lent = Lent {
             labels: front(&mut self.labels, 2 * sizes.node),
             came_from: front(&mut self.came_from, sizes.node),
-            route: front(&mut self.route, sizes.route),
-            best_route: front(&mut self.best_route, sizes.route),
             entries: front(&mut self.entries, 2 * heap),
             links: front(&mut self.links, 2 * heap),
             covered: front(&mut self.covered, sizes.list),
@@ -44,10 +40,9 @@ impl Areas {
     /// The bytes that all areas hold; every entry has 8.
     pub fn bytes(&self) -> usize {
         let reals = [&self.labels, &self.entries, &self.coverage, &self.lengths];
-        let numbers = [&self.came_from, &self.route, &self.best_route];
-        let more = [&self.links, &self.covered];
+        let numbers = [&self.came_from, &self.links, &self.covered];
         let reals = reals.into_iter().map(Vec::capacity);
-        let numbers = numbers.into_iter().chain(more).map(Vec::capacity);
+        let numbers = numbers.into_iter().map(Vec::capacity);
         8 * (reals.chain(numbers).sum::<usize>() + self.ids.capacity())
     }
 }

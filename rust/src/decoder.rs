@@ -19,8 +19,6 @@ pub fn judge(sheet: &[u8]) -> Result<(), Refusal> {
 pub struct Sizes {
     /// Of the node areas, three numbers each.
     pub node: usize,
-    /// Of the route areas, two numbers each.
-    pub route: usize,
     /// Of the heap, four numbers each; more let larger searches end.
     pub heap_least: usize,
     /// Of the coverage area and the answer lists, two numbers each.
@@ -39,13 +37,11 @@ impl Sizes {
     pub fn of(points: usize, nodes: usize) -> Option<Sizes> {
         let ffi::Sizes {
             node,
-            route,
             heap_least,
             list,
         } = ffi::sizes(points, nodes);
         (heap_least > 0).then_some(Sizes {
             node,
-            route,
             heap_least,
             list,
         })
@@ -53,14 +49,13 @@ impl Sizes {
 
     /// The bytes of all areas together, with a heap of so many slots.
     pub fn bytes(&self, heap: usize) -> usize {
-        8 * (3 * self.node + 2 * self.route + 4 * heap + 4 * self.list)
+        8 * (3 * self.node + 4 * heap + 4 * self.list)
     }
 
     /// What the header asks for; nothing where it is refused for its length or its counts.
     fn of_sheet(sheet: &[u8]) -> Sizes {
         let none = Sizes {
             node: 0,
-            route: 0,
             heap_least: 0,
             list: 0,
         };

@@ -10,7 +10,6 @@ pub struct Judgement {
 #[repr(C)]
 pub struct Sizes {
     pub node: usize,
-    pub route: usize,
     pub heap_least: usize,
     pub list: usize,
 }
@@ -56,10 +55,6 @@ extern "C" {
         labels_len: usize,
         came_from: *mut usize,
         came_from_len: usize,
-        route: *mut usize,
-        route_len: usize,
-        best_route: *mut usize,
-        best_route_len: usize,
         entries: *mut f64,
         entries_len: usize,
         links: *mut usize,
@@ -102,8 +97,6 @@ pub fn sizes(points: usize, nodes: usize) -> Sizes {
 pub struct Lent<'a> {
     pub labels: &'a mut [f64],
     pub came_from: &'a mut [usize],
-    pub route: &'a mut [usize],
-    pub best_route: &'a mut [usize],
     pub entries: &'a mut [f64],
     pub links: &'a mut [usize],
     pub covered: &'a mut [usize],
@@ -123,10 +116,6 @@ pub fn decode(sheet: &[u8], lent: Lent) -> Answered {
             lent.labels.len(),
             lent.came_from.as_mut_ptr(),
             lent.came_from.len(),
-            lent.route.as_mut_ptr(),
-            lent.route.len(),
-            lent.best_route.as_mut_ptr(),
-            lent.best_route.len(),
             lent.entries.as_mut_ptr(),
             lent.entries.len(),
             lent.links.as_mut_ptr(),

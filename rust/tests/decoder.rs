@@ -106,10 +106,10 @@ fn hostile_headers_are_refused() {
 #[test]
 fn sizes() {
     let full = Sizes::of(16, 1024).unwrap();
-    assert_eq!((full.node, full.route, full.list), (1024, 1025, 20 * 1025));
+    assert_eq!((full.node, full.list), (1024, 20 * 1025));
     let first_heap = Decoder::new().heap();
-    assert_eq!(full.bytes(first_heap), 828_080);
-    assert_eq!(Sizes::of(2, 100).unwrap().bytes(first_heap), 154_512);
+    assert_eq!(full.bytes(first_heap), 811_680);
+    assert_eq!(Sizes::of(2, 100).unwrap().bytes(first_heap), 152_896);
     assert_eq!(Sizes::of(0, 0).unwrap().list, 4);
     assert_eq!(Sizes::of(17, 0), None);
     assert_eq!(Sizes::of(0, 1025), None);

@@ -1,4 +1,4 @@
--- Refusal 6: the number of entries that it asks for fits a usize, and its six tests one after another are the definition's.
+-- Refusal 6: the number of entries that it asks for fits a usize, and its five tests one after another are the definition's.
 use Prim.Native.Nat.{ℕ, _+_, _*_, _≤_}
 use mathlib.Core.Path.{_≡_}
 use mathlib.Core.Bool.{Bool, true, _&&_}
@@ -14,10 +14,9 @@ use Rattle.model.specs.Call.{Lent, most-entries, has-room}
 pub most-fits : {a b : ℕ} → a ≤ 20 → b ≤ 1025 → Fits w64 (a * b)
 most-fits h k = omega (arith, mul-le-mul h k)
 
-pub six-tests : (points nodes ids lengths : ℕ) (lent : Lent) (u v w x y z : Bool)
+pub five-tests : (points nodes ids lengths : ℕ) (lent : Lent) (u w x y z : Bool)
     → u ≡ (true && leb nodes (lent .node))
-    → v ≡ (u && leb (nodes + 1) (lent .route))
-    → w ≡ (v && leb 1 (lent .heap))
+    → w ≡ (u && leb 1 (lent .heap))
     → x ≡ (w && leb (most-entries points nodes) (lent .coverage))
     → y ≡ (x && leb (most-entries points nodes) ids)
     → z ≡ (y && leb (most-entries points nodes) lengths)
@@ -25,4 +24,4 @@ pub six-tests : (points nodes ids lengths : ℕ) (lent : Lent) (u v w x y z : Bo
     → length (lent .lists .lengths) ≡ lengths
     → z ≡ has-room points nodes lent
 unfolding has-room all-of all-after
-six-tests points nodes ids lengths lent u v w x y z e₁ e₂ e₃ e₄ e₅ e₆ i k = rw (i, k, e₆, e₅, e₄, e₃, e₂, e₁)
+five-tests points nodes ids lengths lent u w x y z e₁ e₂ e₃ e₄ e₅ i k = rw (i, k, e₅, e₄, e₃, e₂, e₁)

@@ -10,7 +10,7 @@ use Rattle.answers.specs.declared.Answer.the-variants as A
 
 -- what a call is lent: areas of these sizes, and the lists l
 abbrev pub lent-of : Sizes → Lists → Lent
-lent-of a l = record { node = a .node; route = a .route; heap = a .heap; coverage = a .coverage; lists = l }
+lent-of a l = record { node = a .node; heap = a .heap; coverage = a .coverage; lists = l }
 
 -- the answer lists of a call
 abbrev pub lists : List ℕ → List Float → Lists

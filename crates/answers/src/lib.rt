@@ -16,7 +16,6 @@ ghost use Rattle.answers.specs.Room.{lent-of, lists};
 // The sizes of the lent areas in entries, each the least of its slices', and of the answer lists.
 pub struct Sizes {
     pub node: usize,
-    pub route: usize,
     pub heap: usize,
     pub coverage: usize,
     pub ids: usize,
@@ -56,7 +55,6 @@ pub fn has_room(c: Counts, a: Sizes) -> bool
     let more = c.n + 1;
     let most = (c.p + 4) * more;
     let v = fits(true, c.n, a.node);
-    let v = fits(v, more, a.route);
     let v = fits(v, 1, a.heap);
     let v = fits(v, most, a.coverage);
     let v = fits(v, most, a.ids);

@@ -1,4 +1,4 @@
--- What the answer "room enough" says of what is lent: six facts, each a test of the row.
+-- What the answer "room enough" says of what is lent: five facts, each a test of the row.
 use Prim.Native.Nat.{ℕ, _+_, _≤_}
 use mathlib.Core.Path.{_≡_}
 use mathlib.Core.Bool.{true}
@@ -9,7 +9,6 @@ use Rattle.model.proofs.Judging.{all-of-at}
 
 pub record RoomFacts (points nodes : ℕ) (lent : Lent) : Type 0 where
   pub node : nodes ≤ lent .node
-  pub route : nodes + 1 ≤ lent .route
   pub heap : 1 ≤ lent .heap
   pub coverage : most-entries points nodes ≤ lent .coverage
   pub ids : most-entries points nodes ≤ length (lent .lists .ids)
@@ -19,9 +18,8 @@ pub room-facts : (points nodes : ℕ) (lent : Lent) → has-room points nodes le
 unfolding has-room
 room-facts points nodes lent e = record {
   node = leb-true _ _ (all-of-at _ e 0);
-  route = leb-true _ _ (all-of-at _ e 1);
-  heap = leb-true _ _ (all-of-at _ e 2);
-  coverage = leb-true _ _ (all-of-at _ e 3);
-  ids = leb-true _ _ (all-of-at _ e 4);
-  lengths = leb-true _ _ (all-of-at _ e 5);
+  heap = leb-true _ _ (all-of-at _ e 1);
+  coverage = leb-true _ _ (all-of-at _ e 2);
+  ids = leb-true _ _ (all-of-at _ e 3);
+  lengths = leb-true _ _ (all-of-at _ e 4);
 }

@@ -88,7 +88,7 @@ three-nodes = s1-nodes 3 (0 ∷ 1 ∷ 1 ∷ 1 ∷ []) (0 ∷ 0 ∷ 0 ∷ []) ((u
 
 -- node areas of two entries
 abbrev pub for-two-nodes : Lent
-for-two-nodes = record { node = 2; route = 65; heap = 128; coverage = 256; lists = lists }
+for-two-nodes = record { node = 2; heap = 128; coverage = 256; lists = lists }
 
 -- from road 0 to road 1 over node 4 or over node 5, both 50 m; the goal row has this distance for node 4, and 0 for all others
 abbrev pub two-ways : ℕ → List ℕ

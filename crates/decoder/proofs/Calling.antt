@@ -47,6 +47,6 @@ module _ (s : List ℕ) (a : Sizes) (x : Opened) (opens : Opens s a x) (ids : Li
     call-sheet = sym (opens-sheet .2 (lists ids lengths) (ids-long, lengths-long))
 
 -- the areas by the least of their slices
-pub lent-are : (a : Sizes) (x : Slices) → a .node ≡ min (x .labels / 2) (x .came-from) → a .route ≡ min (x .route) (x .best-route) → a .heap ≡ min (x .entries / 2) (x .links / 2) → a .coverage ≡ min (x .covered) (x .coverage)
+pub lent-are : (a : Sizes) (x : Slices) → a .node ≡ min (x .labels / 2) (x .came-from) → a .heap ≡ min (x .entries / 2) (x .links / 2) → a .coverage ≡ min (x .covered) (x .coverage)
     → lent-of a (x .lists) ≡ lent x
-lent-are a x n r h c = rw (n, r, h, c)
+lent-are a x n h c = rw (n, h, c)

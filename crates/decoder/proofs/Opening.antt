@@ -52,7 +52,6 @@ module _ (s : List ℕ) (a : Sizes) where
           let facts = room-facts (c .p) (c .n) (lent-of a any-lists) (sym (is any-lists ids lengths) ∙ e) in
           record {
             node = facts .node;
-            route = facts .route;
             heap = facts .heap;
             coverage = facts .coverage;
             ids = omega (arith, facts .ids, ids);

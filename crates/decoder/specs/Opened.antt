@@ -19,8 +19,6 @@ use Rattle.decoder.specs.declared.Opened.the-variants as O
 pub record Slices : Type 0 where
   pub labels : ℕ
   pub came-from : ℕ
-  pub route : ℕ
-  pub best-route : ℕ
   pub entries : ℕ
   pub links : ℕ
   pub covered : ℕ
@@ -31,7 +29,6 @@ pub record Slices : Type 0 where
 abbrev pub lent : Slices → Lent
 lent x = record {
   node = min (x .labels / 2) (x .came-from);
-  route = min (x .route) (x .best-route);
   heap = min (x .entries / 2) (x .links / 2);
   coverage = min (x .covered) (x .coverage);
   lists = x .lists;
@@ -40,7 +37,6 @@ lent x = record {
 -- there is room for a sheet with the counts c
 pub record Room (c : Counts) (a : Sizes) : Type 0 where
   pub node : c .n ≤ a .node
-  pub route : c .n + 1 ≤ a .route
   pub heap : 1 ≤ a .heap
   pub coverage : most-entries (c .p) (c .n) ≤ a .coverage
   pub ids : most-entries (c .p) (c .n) ≤ a .ids

@@ -14,7 +14,7 @@ ghost use Rattle.model.specs.View.{view};
 ghost use Rattle.model.specs.Search.{bounded-astar};
 ghost use Rattle.model.specs.Decode.{outcome};
 ghost use Rattle.model.specs.Call.{answered, decode};
-ghost use Rattle.search.specs.Areas.{AnswerRoom, LegRoom};
+ghost use Rattle.search.specs.Areas.{AnswerRoom, SearchRoom};
 ghost use Rattle.answers.specs.Room.{lists, decoded};
 ghost use Rattle.decoder.specs.Opened.{lent, Opens};
 
@@ -55,8 +55,6 @@ fn decode_sheet(
     slots: usize,
     labels: &mut [f64],
     came_from: &mut [usize],
-    route: &mut [usize],
-    best_route: &mut [usize],
     entries: &mut [f64],
     links: &mut [usize],
     covered: &mut [usize],
@@ -66,26 +64,24 @@ fn decode_sheet(
 ) -> Answer
     requires { ⌜ WellFormed (now s) c ⌝ }
     requires { ⌜ AnswerRoom c (now covered) (now coverage) (now ids) (now lengths) ⌝ }
-    requires { ⌜ LegRoom (c .n) slots (now labels) (now «came_from») (now route) (now «best_route») (now entries) (now links) ⌝ }
+    requires { ⌜ SearchRoom (c .n) slots (now labels) (now «came_from») (now entries) (now links) ⌝ }
     ensures { λ r. ⌜ decoded r (now (ids .exit)) (now (lengths .exit))
         ≡ answered (sheet-of (now (s .entry)) c) (lists (now (ids .entry)) (now (lengths .entry))) (outcome (view (sheet-of (now (s .entry)) c)) (bounded-astar slots)) ⌝ }
 {
     let set = points::settings(s, c);
-    let out = references::decode_legs(
+    let out = location::decode_legs(
         s,
         c,
         slots,
         labels,
         came_from,
-        route,
-        best_route,
         entries,
         links,
         covered,
         coverage,
         ids,
     );
-    finish::answer(s, c, set, out, covered, coverage, ids, lengths)
+    finalize::answer(s, c, set, out, covered, coverage, ids, lengths)
 }
 
 // One call, on any bytes and any areas. Refusals 1 to 6 leave both answer lists untouched; 7 to 11 zero them; a match zeroes the entries after the path. What stands in the work areas before has no part in the answer. What stands there afterwards is the program's choice: their lengths stay, and no later call reads it before writing.
@@ -93,8 +89,6 @@ pub fn decode(
     sheet: &[u8],
     labels: &mut [f64],
     came_from: &mut [usize],
-    route: &mut [usize],
-    best_route: &mut [usize],
     entries: &mut [f64],
     links: &mut [usize],
     covered: &mut [usize],
@@ -106,8 +100,6 @@ pub fn decode(
         ≡ decode (now (sheet .entry)) (lent record {
           labels = length (now (labels .entry));
           came-from = length (now («came_from» .entry));
-          route = length (now (route .entry));
-          best-route = length (now («best_route» .entry));
           entries = length (now (entries .entry));
           links = length (now (links .entry));
           covered = length (now (covered .entry));
@@ -116,12 +108,10 @@ pub fn decode(
         }) ⌝ }
 {
     let nodes = least(labels.len() / 2, came_from.len());
-    let routes = least(route.len(), best_route.len());
     let slots = least(entries.len() / 2, links.len() / 2);
     let coverages = least(covered.len(), coverage.len());
     let sizes = Sizes {
         node: nodes,
-        route: routes,
         heap: slots,
         coverage: coverages,
         ids: ids.len(),
@@ -136,8 +126,6 @@ pub fn decode(
             slots,
             labels,
             came_from,
-            route,
-            best_route,
             entries,
             links,
             covered,

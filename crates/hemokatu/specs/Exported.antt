@@ -27,8 +27,8 @@ judgement-of (Refused number at) = record { number = number; place = at }
 -- what refusal 6 asks of the areas; zeros for counts above their limits, which refusal 2 names first
 unfoldable pub sizes-of : ℕ → ℕ → Sizes
 sizes-of points nodes = cond (leb points most-points && leb nodes most-nodes)
-    (record { node = nodes; route = nodes + 1; «heap_least» = 1; list = most-entries points nodes })
-    (record { node = 0; route = 0; «heap_least» = 0; list = 0 })
+    (record { node = nodes; «heap_least» = 1; list = most-entries points nodes })
+    (record { node = 0; «heap_least» = 0; list = 0 })
 
 -- number 0 for a match; zeros beside a refusal's number, A and B
 unfoldable pub answered-of : Answer → Answered

@@ -45,11 +45,10 @@ pub extern "C" fn hemokatu_judge(sheet: &[u8]) -> Judgement
     }
 }
 
-// The least entries of each area for a sheet of some points and nodes: a node area, a route area, the heap, and the coverage area or an answer list. An entry has two places in `labels`, `entries` and `links`. A larger heap lets larger searches end.
+// The least entries of each area for a sheet of some points and nodes: a node area, the heap, and the coverage area or an answer list. An entry has two places in `labels`, `entries` and `links`. A larger heap lets larger searches end.
 #[repr(C)]
 pub struct Sizes {
     pub node: usize,
-    pub route: usize,
     pub heap_least: usize,
     pub list: usize,
 }
@@ -65,7 +64,6 @@ pub extern "C" fn hemokatu_sizes(points: usize, nodes: usize) -> Sizes
             let most = (points + 4) * more;
             return Sizes {
                 node: nodes,
-                route: more,
                 heap_least: 1,
                 list: most,
             };
@@ -73,7 +71,6 @@ pub extern "C" fn hemokatu_sizes(points: usize, nodes: usize) -> Sizes
     }
     Sizes {
         node: 0,
-        route: 0,
         heap_least: 0,
         list: 0,
     }
@@ -138,8 +135,6 @@ pub extern "C" fn hemokatu_decode(
     sheet: &[u8],
     labels: &mut [f64],
     came_from: &mut [usize],
-    route: &mut [usize],
-    best_route: &mut [usize],
     entries: &mut [f64],
     links: &mut [usize],
     covered: &mut [usize],
@@ -151,8 +146,6 @@ pub extern "C" fn hemokatu_decode(
         (decode (now (sheet .entry)) (lent record {
           labels = length (now (labels .entry));
           came-from = length (now («came_from» .entry));
-          route = length (now (route .entry));
-          best-route = length (now («best_route» .entry));
           entries = length (now (entries .entry));
           links = length (now (links .entry));
           covered = length (now (covered .entry));
@@ -164,8 +157,6 @@ pub extern "C" fn hemokatu_decode(
         sheet,
         labels,
         came_from,
-        route,
-        best_route,
         entries,
         links,
         covered,

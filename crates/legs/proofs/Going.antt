@@ -2,44 +2,41 @@
 use Prim.Native.Nat.{ℕ, suc, _-_, _≤_, _<_}
 use mathlib.Core.Path.{_≡_, refl, sym, ap, _∙_}
 use mathlib.Core.Bool.{Bool, true, false}
-use mathlib.Core.Option.{Option, none, Option·none-ne-some}
+use mathlib.Core.Option.{Option, none}
 use mathlib.Core.List.{List, _∷_}
 use native.Mathlib.Numerals.{add-one}
 use native.Mathlib.Omega.{arith}
 use lib.ListN.{length, drop, getD, drop-of-length-le}
 use lib.Seq.{drop-cons}
-use Rattle.model.specs.declared.Road.{Road}
 use Rattle.model.specs.declared.Limits.{Limits}
 use Rattle.model.specs.Numbers.{_≤ᶠ_}
 use Rattle.model.specs.Legs.{Pair, Scored, MiddleSearch, Turn, best-score, leg-end, next-pair, try-pair, end-or-try, try-pairs}
 use Rattle.rules.specs.declared.Best.{Best}
-use Rattle.rules.specs.Code.{best-of}
-use Rattle.rules.proofs.BestLaws.{best-some}
-use Rattle.plans.specs.declared.Phase.{Phase}
-use Rattle.plans.specs.declared.Phase.the-variants as H
-use Rattle.plans.specs.declared.PairTurn.{PairTurn}
-use Rattle.plans.specs.Turns.{turn-of}
-use Rattle.search.specs.Areas.{Columns, SameSizes}
-use Rattle.legs.specs.Found.{end-after-pairs, place-after, BestHeld}
+use Rattle.rules.specs.Code.{best-of, BestIs}
+use Rattle.pair_plans.specs.declared.Phase.{Phase}
+use Rattle.pair_plans.specs.declared.Phase.the-variants as H
+use Rattle.pair_plans.specs.declared.PairTurn.{PairTurn}
+use Rattle.pair_plans.specs.Turns.{turn-of, Remembers}
+use Rattle.legs.specs.Found.{end-after-pairs, place-after}
 
-module _ (roads : ℕ → Road) (b : Limits) (search : MiddleSearch) (ps : List Pair) where
-  -- pair t is next, of n; the best so far fits n nodes and e roads
-  pub record Good (nodes e n : ℕ) (st : PairTurn) (area : List ℕ) (t : ℕ) : Type 0 where
+module _ (b : Limits) (search : MiddleSearch) (ps : List Pair) where
+  -- pair t is next, of n; the best so far remembers its search between two of the nodes
+  pub record Good (nodes n : ℕ) (st : PairTurn) (t : ℕ) : Type 0 where
     pub in-range : t ≤ n
     pub running : t < n → st .phase ≡ H.On
-    pub fits : BestHeld nodes e (st .best) area
-    pub means : next-pair (turn-of (st .phase) (best-of roads (st .best) area)) (try-pairs b search (drop t ps)) ≡ try-pairs b search ps none
+    pub remembers : Remembers search nodes (st .best .path .middle)
+    pub means : next-pair (turn-of (st .phase) (best-of search (st .best))) (try-pairs b search (drop t ps)) ≡ try-pairs b search ps none
 
-  pub good-start : (nodes e n : ℕ) (unset : Best) (area : List ℕ) → ((roads : ℕ → Road) (area : List ℕ) → best-of roads unset area ≡ none) → Good nodes e n (record { phase = H.On; best = unset; taken = 0 }) area 0
+  pub good-start : (nodes n : ℕ) (unset : Best) → BestIs unset none → unset .path .middle .count ≡ 0 → Good nodes n (record { phase = H.On; best = unset }) 0
   unfolding next-pair turn-of
-  good-start nodes e n unset area is = record {
+  good-start nodes n unset is empty = record {
     in-range = omega arith;
     running = λ h. refl;
-    fits = λ f. absurd (Option·none-ne-some _ (sym (is roads area) ∙ best-some roads unset area f));
-    means = ap (try-pairs b search ps) (is roads area);
+    remembers = λ some. absurd (omega arith);
+    means = ap (try-pairs b search ps) (is search);
   }
 
-  module _ (nodes e n : ℕ) (long : length ps ≡ n) (st : PairTurn) (area : List ℕ) (t : ℕ) (good : Good nodes e n st area t) (h : t < n) where
+  module _ (nodes n : ℕ) (long : length ps ≡ n) (st : PairTurn) (t : ℕ) (good : Good nodes n st t) (h : t < n) where
     pub nearer : (ph : Phase) → n - place-after ph t n < n - t
     unfolding place-after
     nearer H.On = omega arith
@@ -47,21 +44,21 @@ module _ (roads : ℕ → Road) (b : Limits) (search : MiddleSearch) (ps : List 
 
     module _ (p d : Pair) (is : p ≡ getD ps t d) where
       abbrev stop : Bool
-      stop = best-score (best-of roads (st .best) area) ≤ᶠ p .sum
+      stop = best-score (best-of search (st .best)) ≤ᶠ p .sum
 
-      one-on : next-pair (end-or-try stop b search (best-of roads (st .best) area) p) (try-pairs b search (drop (suc t) ps)) ≡ try-pairs b search ps none
+      one-on : next-pair (end-or-try stop b search (best-of search (st .best)) p) (try-pairs b search (drop (suc t) ps)) ≡ try-pairs b search ps none
       unfolding try-pairs next-pair turn-of
       one-on =
           let split : drop t ps ≡ p ∷ drop (suc t) ps = drop-cons ps t d (omega arith) ∙ rw is in
-          ap (λ (l : List Pair). try-pairs b search l (best-of roads (st .best) area)) (sym split)
+          ap (λ (l : List Pair). try-pairs b search l (best-of search (st .best))) (sym split)
           ∙ (rw (good .running h) at (good .means))
 
       -- a pair whose sum reaches the best score ends them
-      pub good-enough : stop ≡ true → end-after-pairs roads st area ≡ try-pairs b search ps none
+      pub good-enough : stop ≡ true → end-after-pairs search st ≡ try-pairs b search ps none
       unfolding end-after-pairs next-pair turn-of end-or-try
       good-enough e =
-          ap (λ (ph : Phase). next-pair (turn-of ph (best-of roads (st .best) area)) leg-end) (good .running h)
-          ∙ ap (λ (w : Bool). next-pair (end-or-try w b search (best-of roads (st .best) area) p) (try-pairs b search (drop (suc t) ps))) (sym e)
+          ap (λ (ph : Phase). next-pair (turn-of ph (best-of search (st .best))) leg-end) (good .running h)
+          ∙ ap (λ (w : Bool). next-pair (end-or-try w b search (best-of search (st .best)) p) (try-pairs b search (drop (suc t) ps))) (sym e)
           ∙ one-on
 
       -- after the pair, by how it goes on
@@ -80,30 +77,17 @@ module _ (roads : ℕ → Road) (b : Limits) (search : MiddleSearch) (ps : List 
       goes H.On g = refl
       goes H.Full g = absurd (omega arith)
 
-      pub good-turn : stop ≡ false → (r : PairTurn) (next : List ℕ) → turn-of (r .phase) (best-of roads (r .best) next) ≡ try-pair b search (best-of roads (st .best) area) p → BestHeld nodes e (r .best) next
-          → Good nodes e n r next (place-after (r .phase) t n)
+      pub good-turn : stop ≡ false → (r : PairTurn) → turn-of (r .phase) (best-of search (r .best)) ≡ try-pair b search (best-of search (st .best)) p → Remembers search nodes (r .best .path .middle)
+          → Good nodes n r (place-after (r .phase) t n)
       unfolding end-or-try
-      good-turn e r next turned fits = record {
+      good-turn e r turned remembers = record {
         in-range = ranged (r .phase);
         running = goes (r .phase);
-        fits = fits;
-        means = sym (after (r .phase) (best-of roads (r .best) next)) ∙ ap (λ (w : Turn). next-pair w (try-pairs b search (drop (suc t) ps))) (turned ∙ ap (λ (w : Bool). end-or-try w b search (best-of roads (st .best) area) p) (sym e)) ∙ one-on;
+        remembers = remembers;
+        means = sym (after (r .phase) (best-of search (r .best))) ∙ ap (λ (w : Turn). next-pair w (try-pairs b search (drop (suc t) ps))) (turned ∙ ap (λ (w : Bool). end-or-try w b search (best-of search (st .best)) p) (sym e)) ∙ one-on;
       }
 
-  pub good-end : (nodes e n : ℕ) → length ps ≡ n → (st : PairTurn) (area : List ℕ) (t : ℕ) → Good nodes e n st area t → n ≤ t → end-after-pairs roads st area ≡ try-pairs b search ps none
+  pub good-end : (nodes n : ℕ) → length ps ≡ n → (st : PairTurn) (t : ℕ) → Good nodes n st t → n ≤ t → end-after-pairs search st ≡ try-pairs b search ps none
   unfolding end-after-pairs try-pairs
-  good-end nodes e n long st area t good h =
-      ap (λ (l : List Pair). next-pair (turn-of (st .phase) (best-of roads (st .best) area)) (try-pairs b search l)) (sym (drop-of-length-le ps {i = t} (omega arith))) ∙ good .means
-
--- every lent area keeps its length
-pub record Kept (a₀ a : Columns) (route₀ route₁ best₀ best₁ : List ℕ) : Type 0 where
-  pub sizes : SameSizes a₀ a
-  pub route : length route₁ ≡ length route₀
-  pub best-route : length best₁ ≡ length best₀
-
-pub kept-start : (a : Columns) (route best-route : List ℕ) → Kept a a route route best-route best-route
-kept-start a route best-route = record {
-  sizes = record { real = refl; penalised = refl; came = refl; f-score = refl; g-score = refl; node = refl; order = refl };
-  route = refl;
-  best-route = refl;
-}
+  good-end nodes n long st t good h =
+      ap (λ (l : List Pair). next-pair (turn-of (st .phase) (best-of search (st .best))) (try-pairs b search l)) (sym (drop-of-length-le ps {i = t} (omega arith))) ∙ good .means

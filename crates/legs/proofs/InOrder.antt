@@ -21,8 +21,8 @@ use Rattle.pairs.specs.Left.{left, Rising, ScoresOf}
 use Rattle.pairs.proofs.PairLaws.{hundred, pairs-long}
 use Rattle.pairs.proofs.Fronts.{length-sort}
 use Rattle.pairs.proofs.LeftLaws.{left-zeros, some-left}
-use Rattle.plans.specs.declared.Phase.{Phase}
-use Rattle.plans.specs.declared.Phase.the-variants as H
+use Rattle.pair_plans.specs.declared.Phase.{Phase}
+use Rattle.pair_plans.specs.declared.Phase.the-variants as H
 use Rattle.legs.specs.Found.{place-after}
 
 -- a leg's pairs in order

@@ -1,61 +1,62 @@
--- What lies between two roads, and the roads that are kept of it.
-use Prim.Native.Nat.{ℕ, _≤_, _<_}
+-- What lies between two roads, and the search of a middle once more.
+use Prim.Native.Nat.{ℕ, _<_}
 use mathlib.Core.Path.{_≡_, refl, sym, ap, _∙_, subst}
-use mathlib.Core.Logic.{inl, inr, _⊎_}
 use mathlib.Core.Bool.{cond}
 use mathlib.Core.List.{List, []}
 use native.Mathlib.Omega.{arith}
 use borrow.Author.Tests.{eq-eqb, ne-eqb}
 use lib.Dec.{eqb}
-use lib.ListN.{length, take, drop, getD, set, List·getD-append}
-use lib.Seq.{length-take-le, getD-take}
+use lib.ListN.{length}
+use lib.Seq.{take-all}
 use lib.Ieee.{Float}
+use Rattle.model.specs.declared.Counts.{Counts}
 use Rattle.model.specs.declared.Road.{Road}
 use Rattle.model.specs.declared.Limits.{Limits}
 use Rattle.model.specs.Numbers.{f0}
-use Rattle.model.specs.Sheet.{Sheet, sheet-of}
+use Rattle.model.specs.Sheet.{Sheet}
 use Rattle.model.specs.View.{view}
-use Rattle.model.specs.Search.{found, bounded-astar}
+use Rattle.model.specs.Search.{found, none-found, full, bounded-astar}
 use Rattle.model.specs.Search as astar
+use Rattle.model.specs.Legs.{MiddleSearch}
 use Rattle.model.specs.Decode.{query-of, middle-search}
-use Rattle.rules.specs.declared.Best.{Best}
-use Rattle.plans.specs.declared.SearchNeed.{SearchNeed}
-use Rattle.plans.specs.declared.SearchNeed.the-variants as A
-use Rattle.plans.specs.declared.PairTurn.{PairTurn}
-use Rattle.plans.specs.Turns.{by-need, road-count, renewed}
+use Rattle.rules.specs.declared.Middle.{Middle}
+use Rattle.rules.specs.Code.{middle-in}
+use Rattle.pair_plans.specs.declared.SearchNeed.{SearchNeed}
+use Rattle.pair_plans.specs.declared.SearchNeed.the-variants as A
+use Rattle.pair_plans.specs.Turns.{by-need}
 use Rattle.search.specs.declared.SearchEnd.{SearchEnd}
 use Rattle.search.specs.declared.SearchEnd.the-variants as S
 use Rattle.search.specs.Query.{query-on}
-use Rattle.search.specs.Answers.{search-end-of, RouteHeld}
+use Rattle.search.specs.Answers.{told, roads-in, WayBack, Traced}
 use Rattle.legs.specs.declared.middle.Way.{Way}
 use Rattle.legs.specs.declared.middle.Way.the-variants as W
-use Rattle.legs.specs.Found.{middle-search-at, by-way, RoadsHeld, Brief, BestHeld}
+use Rattle.legs.specs.Found.{middle-search-at, WayIs, Brief, LedBy}
 
 -- ---- by what is needed
 
 module _ (start goal : ℕ) (a : SearchNeed) where
   abbrev pub Between : Way → Type 0
-  Between r = (roads : ℕ → Road) (area : List ℕ) (search : Float → astar.SearchEnd) → by-way roads area search r ≡ by-need (λ bound. cond (eqb start goal) (found f0 []) (search bound)) a
+  Between r = (search : Float → astar.SearchEnd) → WayIs search (by-need (λ bound. cond (eqb start goal) (found f0 []) (search bound)) a) r
 
   pub no-search-needed : a ≡ A.None → Between (W.Known S.Nothing)
-  unfolding by-way by-need search-end-of
-  no-search-needed e roads area search = rw e
+  unfolding WayIs by-need told
+  no-search-needed e search = rw e
 
   module _ (bound : Float) (e : a ≡ A.Within bound) where
     pub already-there : start ≡ goal → Between (W.Known (S.Found f0 0))
-    unfolding by-way by-need search-end-of
-    already-there h roads area search = rw (e, eq-eqb start goal h)
+    unfolding WayIs by-need told
+    already-there h search = rw (e, eq-eqb start goal h)
 
     pub search-needed : (start ≡ goal → ⊥) → Between (W.Within bound)
-    unfolding by-way by-need
-    search-needed h roads area search = rw (e, ne-eqb start goal h)
+    unfolding WayIs by-need
+    search-needed h search = rw (e, ne-eqb start goal h)
 
 pub brief-nothing : Brief (W.Known S.Nothing)
-unfolding Brief road-count
-brief-nothing = refl
+unfolding Brief
+brief-nothing = tt
 
 pub brief-there : Brief (W.Known (S.Found f0 0))
-unfolding Brief road-count
+unfolding Brief
 brief-there = refl
 
 pub brief-within : (bound : Float) → Brief (W.Within bound)
@@ -72,46 +73,41 @@ module _ (t : Sheet) (slots : ℕ) (b : Limits) (start goal : ℕ) (a : SearchNe
   unfolding query-on query-of view middle-search-at middle-search
   leg-search = refl
 
-  module _ (roads : ℕ → Road) (m : SearchEnd) (area : List ℕ) where
-    pub known-found : w ≡ W.Known m → search-end-of roads m area ≡ by-need (middle-search-at t slots b start goal) a
-    unfolding by-way
-    known-found e = (rw e at (between roads area search)) ∙ leg-search
+  pub known-found : (m : SearchEnd) → w ≡ W.Known m → m ≡ told (by-need (middle-search-at t slots b start goal) a)
+  unfolding WayIs
+  known-found m e = (rw e at (between search)) ∙ ap told leg-search
 
-    pub search-found : (bound : Float) → w ≡ W.Within bound
-        → search-end-of roads m area ≡ bounded-astar slots (query-on t record { start = start; goal = goal; «max_cost» = bound; constraints = b .constraints }) start
-        → search-end-of roads m area ≡ by-need (middle-search-at t slots b start goal) a
-    unfolding by-way
-    search-found bound e is-found = is-found ∙ (rw e at (between roads area search)) ∙ leg-search
+  pub search-found : (bound : Float) → w ≡ W.Within bound → search bound ≡ by-need (middle-search-at t slots b start goal) a
+  unfolding WayIs
+  search-found bound e = (rw e at (between search)) ∙ leg-search
 
-pub brief-known : (w : Way) (m : SearchEnd) → w ≡ W.Known m → Brief w → road-count m ≡ 0
-unfolding Brief
-brief-known w m e h = rw e at h
+pub known-led : (t : Sheet) (c : Counts) (goal : ℕ) (came : List ℕ) (m : SearchEnd) (way : List Road) (w : Way) → w ≡ W.Known m → Brief w → LedBy t c goal came m way
+unfolding Brief LedBy
+known-led t c goal came (S.Found cost n) way w e h = λ some. absurd (let z = rw e at h in omega arith)
+known-led t c goal came S.Nothing way w e h = tt
+known-led t c goal came S.Full way w e h = tt
 
--- known without a search
-pub known-holds : (m : SearchEnd) → road-count m ≡ 0 → (n e : ℕ) (area : List ℕ) → 0 < n → RouteHeld n e m area
-unfolding RouteHeld road-count
-known-holds (S.Found cost k) z n e area h = (omega arith, λ j g. absurd (omega arith))
-known-holds S.Nothing z n e area h = tt
-known-holds S.Full z n e area h = tt
+pub traced-led : (t : Sheet) (c : Counts) (goal : ℕ) (came : List ℕ) (m : SearchEnd) (way : List Road) → Traced t c goal came m way → LedBy t c goal came m way
+unfolding Traced LedBy
+traced-led t c goal came (S.Found cost n) way h = λ some. h
+traced-led t c goal came S.Nothing way h = tt
+traced-led t c goal came S.Full way h = tt
 
--- ---- the roads that are kept
+-- ---- once more
 
-pub holds-roads : (n e : ℕ) (m : SearchEnd) (area : List ℕ) → 0 < n → RouteHeld n e m area → RoadsHeld n e (road-count m) area
-unfolding RouteHeld road-count
-holds-roads n e (S.Found cost k) area h s = s
-holds-roads n e S.Nothing area h s = (h, λ j g. absurd (omega arith))
-holds-roads n e S.Full area h s = (h, λ j g. absurd (omega arith))
+-- what is told of a way with k roads: found, with k roads
+pub found-again : (f : astar.SearchEnd) (k : ℕ) → 0 < k → length (roads-in f) ≡ k → (cost : Float) × (S.Found cost k ≡ told f)
+unfolding roads-in told
+found-again (found cost way) k some e = (cost, rw e)
+found-again none-found k some e = absurd (omega (arith, e))
+found-again full k some e = absurd (omega (arith, e))
 
--- the best route's middle, after a pair
-module _ (n e : ℕ) (best : Best) (r : PairTurn) (m : ℕ) (new old : List ℕ) (few : r .taken ≤ m) (fit : m ≤ length new) (found : RoadsHeld n e m new) (kept : BestHeld n e best old) where
-  renewed-at : (k j : ℕ) → j < k → k ≤ length new → getD (renewed k new old) j 0 ≡ getD new j 0
-  renewed-at k j h g =
-      List·getD-append (take k new) (drop k old) 0 j (let l = length-take-le k new g in omega arith)
-      ∙ getD-take k new j 0 h
-
-  pub fits-on : ((r .best ≡ best) × (r .taken ≡ 0)) ⊎ (r .best .path .count ≡ r .taken) → BestHeld n e (r .best) (renewed (r .taken) new old)
-  fits-on (inl (same, none)) =
-      subst (λ (k : ℕ). BestHeld n e (r .best) (renewed k new old)) (sym none) (subst (λ (x : Best). BestHeld n e x old) (sym same) kept)
-  fits-on (inr is) = λ f.
-      subst (λ (k : ℕ). RoadsHeld n e k (renewed (r .taken) new old)) (sym is)
-      ((let g = found .0 in omega arith), λ j h. subst (λ (x : ℕ). x < e) (sym (renewed-at (r .taken) j h (omega arith))) (found .1 j (omega arith)))
+-- so the marks lead back over the middle
+pub led-again : (t : Sheet) (c : Counts) (search : MiddleSearch) (came : List ℕ) (m : Middle) (r : SearchEnd) → 0 < m .count → length (roads-in (search (m .start) (m .goal) (m .bound))) ≡ m .count
+    → r ≡ told (search (m .start) (m .goal) (m .bound)) → LedBy t c (m .goal) came r (roads-in (search (m .start) (m .goal) (m .bound))) → WayBack t c (m .goal) came (m .count) (middle-in search m)
+unfolding LedBy middle-in
+led-again t c search came m r some long is led =
+    let f = search (m .start) (m .goal) (m .bound) in
+    let next = found-again f (m .count) some long in
+    let way = subst (λ (x : SearchEnd). LedBy t c (m .goal) came x (roads-in f)) (is ∙ sym (next .1)) led some in
+    subst (WayBack t c (m .goal) came (m .count)) (sym (take-all (m .count) (roads-in f) (omega (arith, long)))) way

@@ -1,25 +1,25 @@
 // What lies between two roads of a pair: known without a search, or found by one.
 use model::Counts;
 use model::Limits;
-use plans::SearchNeed;
+use pair_plans::SearchNeed;
+use rules::Middle;
 use search::SearchEnd;
 ghost use mathlib.Core.Path.{_≡_};
 ghost use mathlib.Core.Bool.{cond};
-ghost use mathlib.Core.List.{List, []};
-ghost use Prim.Native.Nat.{ℕ, _≤_, _<_};
+ghost use mathlib.Core.List.{[]};
+ghost use Prim.Native.Nat.{_<_};
 ghost use lib.Dec.{eqb};
-ghost use lib.ListN.{length};
 ghost use lib.Ieee.{Float};
-ghost use Rattle.model.specs.declared.Road.{Road};
 ghost use Rattle.model.specs.Numbers.{f0};
 ghost use Rattle.model.specs.Judge.{WellFormed};
-ghost use Rattle.model.specs.Sheet.{sheet-of, road-at};
+ghost use Rattle.model.specs.Sheet.{sheet-of};
 ghost use Rattle.model.specs.Search.{found};
 ghost use Rattle.model.specs.Search as astar;
-ghost use Rattle.plans.specs.Turns.{by-need, renewed};
+ghost use Rattle.pair_plans.specs.Turns.{by-need, Remembers};
+ghost use Rattle.rules.specs.Code.{middle-in};
 ghost use Rattle.search.specs.Areas.{SearchRoom};
-ghost use Rattle.search.specs.Answers.{search-end-of, RouteHeld};
-ghost use Rattle.legs.specs.Found.{middle-search-at, by-way, Priced, Brief};
+ghost use Rattle.search.specs.Answers.{told, roads-in, WayBack};
+ghost use Rattle.legs.specs.Found.{middle-search-at, WayIs, Priced, Brief, LedBy};
 
 // What is known without a search, or the bound of a search.
 pub enum Way {
@@ -29,7 +29,7 @@ pub enum Way {
 
 // No search where none is needed, and none where start and goal are one node.
 fn way_between(a: SearchNeed, start: usize, goal: usize) -> Way
-    ensures means { λ r. ⌜ ((roads : ℕ → Road) (area : List ℕ) (search : Float → astar.SearchEnd) → by-way roads area search r ≡ by-need (λ bound. cond (eqb start goal) (found f0 []) (search bound)) a) ⌝ }
+    ensures means { λ r. ⌜ ((search : Float → astar.SearchEnd) → WayIs search (by-need (λ bound. cond (eqb start goal) (found f0 []) (search bound)) a) r) ⌝ }
     ensures brief { λ r. ⌜ Brief r ⌝ }
 {
     let SearchNeed::Within(bound) = a else {
@@ -41,7 +41,7 @@ fn way_between(a: SearchNeed, start: usize, goal: usize) -> Way
     Way::Within(bound)
 }
 
-// What lies between the nodes `start` and `goal`, where a pair needs it. Its roads are in the front of `route`.
+// What lies between the nodes `start` and `goal`, where a pair needs it. The marks lead back over its roads.
 pub fn middle(
     s: &[u8],
     c: Counts,
@@ -52,14 +52,13 @@ pub fn middle(
     slots: usize,
     labels: &mut [f64],
     came_from: &mut [usize],
-    route: &mut [usize],
     entries: &mut [f64],
     links: &mut [usize],
 ) -> SearchEnd
     requires { ⌜ WellFormed (now s) c × Priced b × (start < c .n) × (goal < c .n) ⌝ }
-    requires { ⌜ SearchRoom (c .n) slots (now labels) (now «came_from») (now route) (now entries) (now links) ⌝ }
-    ensures means { λ m. ⌜ search-end-of (road-at (sheet-of (now (s .entry)) c)) m (now (route .exit)) ≡ by-need (middle-search-at (sheet-of (now (s .entry)) c) slots b start goal) a ⌝ }
-    ensures holds { λ m. ⌜ RouteHeld (c .n) (c .e) m (now (route .exit)) ⌝ }
+    requires { ⌜ SearchRoom (c .n) slots (now labels) (now «came_from») (now entries) (now links) ⌝ }
+    ensures means { λ m. ⌜ m ≡ told (by-need (middle-search-at (sheet-of (now (s .entry)) c) slots b start goal) a) ⌝ }
+    ensures led { λ m. ⌜ LedBy (sheet-of (now (s .entry)) c) c goal (now («came_from» .exit)) m (roads-in (by-need (middle-search-at (sheet-of (now (s .entry)) c) slots b start goal) a)) ⌝ }
 {
     let known = way_between(a, start, goal);
     match known {
@@ -79,7 +78,6 @@ pub fn middle(
                 slots,
                 labels,
                 came_from,
-                route,
                 entries,
                 links,
             );
@@ -88,14 +86,36 @@ pub fn middle(
     }
 }
 
-// The first n roads of the search's area become those of the best route.
-pub fn keep_roads(best_route: &mut [usize], route: &[usize], n: usize)
-    requires { ⌜ (n ≤ length (now «best_route»)) × (n ≤ length (now route)) ⌝ }
-    ensures { λ _. ⌜ now («best_route» .exit) ≡ renewed n (now (route .entry)) (now («best_route» .entry)) ⌝ }
+// The search of a middle once more, where it has roads: the marks lead back over them afterwards. It finds what it found, so it cannot be full (`found-again`).
+pub fn search_again(
+    s: &[u8],
+    c: Counts,
+    b: Limits,
+    m: Middle,
+    slots: usize,
+    labels: &mut [f64],
+    came_from: &mut [usize],
+    entries: &mut [f64],
+    links: &mut [usize],
+)
+    requires { ⌜ WellFormed (now s) c × Priced b × Remembers (middle-search-at (sheet-of (now s) c) slots b) (c .n) m ⌝ }
+    requires { ⌜ SearchRoom (c .n) slots (now labels) (now «came_from») (now entries) (now links) ⌝ }
+    ensures { λ _. ⌜ (0 < m .count → WayBack (sheet-of (now (s .entry)) c) c (m .goal) (now («came_from» .exit)) (m .count) (middle-in (middle-search-at (sheet-of (now (s .entry)) c) slots b) m)) ⌝ }
 {
-    let mut i = 0;
-    while i < n {
-        best_route[i] = route[i];
-        i += 1;
+    if 0 < m.count {
+        let a = SearchNeed::Within(m.bound);
+        middle(
+            s,
+            c,
+            b,
+            a,
+            m.start,
+            m.goal,
+            slots,
+            labels,
+            came_from,
+            entries,
+            links,
+        );
     }
 }

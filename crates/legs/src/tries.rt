@@ -5,9 +5,9 @@ use candidates::find::Candidates;
 use candidates::find::MOST_TRIED;
 use model::Counts;
 use model::Limits;
-use plans::PairTurn;
-use plans::Phase;
-use plans::turns;
+use pair_plans::PairTurn;
+use pair_plans::Phase;
+use pair_plans::turns;
 use rules::Best;
 use rules::routes;
 use sheet::roads;
@@ -16,15 +16,15 @@ ghost use mathlib.Core.Option.{none};
 ghost use Prim.Native.Nat.{_≤_, _<_};
 ghost use Rattle.model.specs.Lists.{sort};
 ghost use Rattle.model.specs.Judge.{WellFormed};
-ghost use Rattle.model.specs.Sheet.{sheet-of, road-at};
+ghost use Rattle.model.specs.Sheet.{sheet-of};
 ghost use Rattle.model.specs.Legs.{pair, pairs, by-sum, try-pair, try-pairs};
 ghost use Rattle.candidates.specs.Found.{at-road, held, CandidatesReady};
 ghost use Rattle.rules.specs.Code.{best-of};
-ghost use Rattle.plans.specs.Turns.{turn-of};
-ghost use Rattle.search.specs.Areas.{LegRoom};
-ghost use Rattle.legs.specs.Found.{middle-search-at, end-after-pairs, place-after, Priced, BestHeld};
+ghost use Rattle.pair_plans.specs.Turns.{turn-of, Remembers};
+ghost use Rattle.search.specs.Areas.{SearchRoom};
+ghost use Rattle.legs.specs.Found.{middle-search-at, end-after-pairs, place-after, Priced};
 
-// One pair: its plan, the search if it needs one, and what comes of it. The best route's middle is in the front of `best_route`.
+// One pair: its plan, the search if it needs one, and what comes of it. The best so far remembers its search.
 pub fn try_pair(
     s: &[u8],
     c: Counts,
@@ -35,16 +35,14 @@ pub fn try_pair(
     slots: usize,
     labels: &mut [f64],
     came_from: &mut [usize],
-    route: &mut [usize],
-    best_route: &mut [usize],
     entries: &mut [f64],
     links: &mut [usize],
 ) -> PairTurn
-    requires { ⌜ WellFormed (now s) c × Priced b × (start .«edge_idx» < c .e) × (end .«edge_idx» < c .e) × BestHeld (c .n) (c .e) best (now «best_route») ⌝ }
-    requires { ⌜ LegRoom (c .n) slots (now labels) (now «came_from») (now route) (now «best_route») (now entries) (now links) ⌝ }
-    ensures means { λ t. ⌜ turn-of (t .phase) (best-of (road-at (sheet-of (now (s .entry)) c)) (t .best) (now («best_route» .exit)))
-        ≡ try-pair b (middle-search-at (sheet-of (now (s .entry)) c) slots b) (best-of (road-at (sheet-of (now (s .entry)) c)) best (now («best_route» .entry))) (pair (at-road (sheet-of (now (s .entry)) c) start) (at-road (sheet-of (now (s .entry)) c) end)) ⌝ }
-    ensures fits { λ t. ⌜ BestHeld (c .n) (c .e) (t .best) (now («best_route» .exit)) ⌝ }
+    requires { ⌜ WellFormed (now s) c × Priced b × (start .«edge_idx» < c .e) × (end .«edge_idx» < c .e) ⌝ }
+    requires { ⌜ SearchRoom (c .n) slots (now labels) (now «came_from») (now entries) (now links) ⌝ }
+    ensures means { λ t. ⌜ turn-of (t .phase) (best-of (middle-search-at (sheet-of (now (s .entry)) c) slots b) (t .best))
+        ≡ try-pair b (middle-search-at (sheet-of (now (s .entry)) c) slots b) (best-of (middle-search-at (sheet-of (now (s .entry)) c) slots b) best) (pair (at-road (sheet-of (now (s .entry)) c) start) (at-road (sheet-of (now (s .entry)) c) end)) ⌝ }
+    ensures remembers { λ t. ⌜ (Remembers (middle-search-at (sheet-of (now (s .entry)) c) slots b) (c .n) (best .path .middle) → Remembers (middle-search-at (sheet-of (now (s .entry)) c) slots b) (c .n) (t .best .path .middle)) ⌝ }
 {
     let from = start.edge_idx;
     let to = end.edge_idx;
@@ -62,13 +60,10 @@ pub fn try_pair(
         slots,
         labels,
         came_from,
-        route,
         entries,
         links,
     );
-    let t = turns::finish_pair(b, start, first, end, last, best, p, m);
-    middle::keep_roads(best_route, route, t.taken);
-    t
+    turns::finish_pair(b, start, first, end, last, best, p, m)
 }
 
 // The place of the next pair among n: past the last one where the leg is decided.
@@ -92,16 +87,14 @@ pub fn try_pairs(
     slots: usize,
     labels: &mut [f64],
     came_from: &mut [usize],
-    route: &mut [usize],
-    best_route: &mut [usize],
     entries: &mut [f64],
     links: &mut [usize],
 ) -> PairTurn
     requires { ⌜ WellFormed (now s) c × Priced b × CandidatesReady c starts × CandidatesReady c ends ⌝ }
-    requires { ⌜ LegRoom (c .n) slots (now labels) (now «came_from») (now route) (now «best_route») (now entries) (now links) ⌝ }
-    ensures means { λ t. ⌜ end-after-pairs (road-at (sheet-of (now (s .entry)) c)) t (now («best_route» .exit))
+    requires { ⌜ SearchRoom (c .n) slots (now labels) (now «came_from») (now entries) (now links) ⌝ }
+    ensures means { λ t. ⌜ end-after-pairs (middle-search-at (sheet-of (now (s .entry)) c) slots b) t
         ≡ try-pairs b (middle-search-at (sheet-of (now (s .entry)) c) slots b) (sort by-sum (pairs (held (sheet-of (now (s .entry)) c) starts) (held (sheet-of (now (s .entry)) c) ends))) none ⌝ }
-    ensures fits { λ t. ⌜ BestHeld (c .n) (c .e) (t .best) (now («best_route» .exit)) ⌝ }
+    ensures remembers { λ t. ⌜ Remembers (middle-search-at (sheet-of (now (s .entry)) c) slots b) (c .n) (t .best .path .middle) ⌝ }
 {
     let count = starts.count * ends.count;
     let mut by_start = [0.0; MOST_TRIED];
@@ -119,7 +112,6 @@ pub fn try_pairs(
     let mut st = PairTurn {
         phase: Phase::On,
         best: unset,
-        taken: 0,
     };
     let mut t = 0;
     while t < count {
@@ -142,8 +134,6 @@ pub fn try_pairs(
             slots,
             labels,
             came_from,
-            route,
-            best_route,
             entries,
             links,
         );

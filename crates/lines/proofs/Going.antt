@@ -2,14 +2,12 @@
 use Prim.Native.Nat.{ℕ, zero, suc, _+_, _-_, _*_, _≤_, _<_}
 use mathlib.Core.Path.{_≡_, refl, sym, ap, _∙_, subst}
 use mathlib.Core.Bool.{Bool, true, false, cond}
-use mathlib.Core.Option.{Option, none}
 use mathlib.Core.List.{List, [], _++_}
 use native.Mathlib.Nat.{mul-le-mul, add-mul, zero-mul}
 use native.Mathlib.Omega.{arith}
 use borrow.Author.Tests.{eq-eqb}
 use lib.Dec.{eqb}
-use lib.ListN.{length, take, drop, length-drop}
-use lib.Seq.{length-take-le, take-append-add, take-append-le}
+use lib.ListN.{take}
 use lib.Ieee.{Float}
 use Rattle.model.specs.declared.Counts.{Counts}
 use Rattle.model.specs.Numbers.{_⊕_}
@@ -20,9 +18,9 @@ use Rattle.model.specs.Legs.{EdgeCoverage, PathResult, LegEnd, best, no-path, h
 use Rattle.model.specs.Decode.{FullPath, no-path-yet, roads-of, segment-of, extended, path-of-leg, Outcome, refused, with-primary, after-leg}
 use Rattle.model.specs.Decode as decode
 use Rattle.model.specs.Call.{most-entries}
-use Rattle.courses.specs.Left.{unwritten, coverages-at, cover-all}
-use Rattle.courses.proofs.Writing.{skip-none}
-use Rattle.courses.proofs.Appended.{append-numbers}
+use Rattle.full_path.specs.Left.{unwritten, coverages-at, cover-all}
+use Rattle.full_path.proofs.Writing.{skip-none}
+use Rattle.full_path.proofs.Appended.{append-numbers}
 use Rattle.lines.specs.declared.WrittenLeg.{WrittenLeg}
 use Rattle.lines.specs.declared.LegWritten.{LegWritten}
 use Rattle.lines.specs.declared.LegWritten.the-variants as E
@@ -42,20 +40,6 @@ rows-more i w = add-mul i 1 w ∙ omega arith
 rows-fit : (i j w : ℕ) → i ≤ j → i * w ≤ j * w
 rows-fit i j w h = mul-le-mul h (omega arith)
 
--- ---- the lent tail
-
--- what a leg writes into the tail stands behind the first `at`
-pub tail-split : (ids ys rest : List ℕ) (at m : ℕ) → at ≤ length ids → m ≤ length ys → take (at + m) (take at ids ++ (ys ++ rest)) ≡ take at ids ++ take m ys
-tail-split ids ys rest at m h g =
-    let l : length (take at ids) ≡ at = length-take-le at ids h in
-    ap (λ (n : ℕ). take (n + m) (take at ids ++ (ys ++ rest))) (sym l)
-    ∙ take-append-add (take at ids) (ys ++ rest) m
-    ∙ ap (λ (r : List ℕ). take at ids ++ r) (take-append-le m ys rest g)
-
--- the tail has what is left of the length
-pub tail-long : (ids : List ℕ) (at : ℕ) → at ≤ length ids → length (take (length ids - at) (drop at ids)) ≡ length ids - at
-tail-long ids at h = length-take-le (length ids - at) (drop at ids) (simp length-drop (omega arith))
-
 -- ---- one leg more
 
 module _ (s : List ℕ) (c : Counts) (slots : ℕ) where
@@ -68,12 +52,12 @@ module _ (s : List ℕ) (c : Counts) (slots : ℕ) where
   -- ---- few entries
 
   -- a leg writes few roads, and so do all legs
-  pub short-leg : c .n ≤ 1024 → (summed : Bool) (dnp : Float) (o : Option ℕ) (ks : List EdgeCoverage) (n0 : ℕ) (so : LegEnd) (out covered : List ℕ) (coverage : List Float) (e : LegWritten)
-      → LegEndWritten (sheet-of s c) c summed dnp o ks n0 so out covered coverage e → Short e
+  pub short-leg : c .n ≤ 1024 → (summed : Bool) (dnp : Float) (n : ℕ) (ids : List ℕ) (ks : List EdgeCoverage) (n0 : ℕ) (so : LegEnd) (ids₁ covered : List ℕ) (coverage : List Float) (e : LegWritten)
+      → LegEndWritten (sheet-of s c) c summed dnp n ids ks n0 so ids₁ covered coverage e → Short e
   unfolding LegEndWritten Short
-  short-leg few summed dnp o ks n0 so out covered coverage (E.Written w) left = (let g = left .2 .few in omega arith)
-  short-leg few summed dnp o ks n0 so out covered coverage E.NoPath left = tt
-  short-leg few summed dnp o ks n0 so out covered coverage E.HeapFull left = tt
+  short-leg few summed dnp n ids ks n0 so ids₁ covered coverage (E.Written w) left = (let g = left .2 .few in omega arith)
+  short-leg few summed dnp n ids ks n0 so ids₁ covered coverage E.NoPath left = tt
+  short-leg few summed dnp n ids ks n0 so ids₁ covered coverage E.HeapFull left = tt
 
   pub few-entries : c .p ≤ 16 → c .n ≤ 1024 → most-entries (c .p) (c .n) ≤ 20500
   few-entries p n =
@@ -169,7 +153,7 @@ module _ (s : List ℕ) (c : Counts) (slots : ℕ) where
       nearer E.HeapFull = omega arith
 
       -- the leg's roads stand behind those already written
-      module _ (ids₁ out covered₁ : List ℕ) (coverage₁ : List Float) (split : (m : ℕ) → m ≤ c .n + 1 → take (x .path .written + m) ids₁ ≡ take (x .path .written) ids ++ take m out) where
+      module _ (ids₁ covered₁ : List ℕ) (coverage₁ : List Float) where
         abbrev k : FullPath
         k = stored-now .0
 
@@ -183,7 +167,7 @@ module _ (s : List ℕ) (c : Counts) (slots : ℕ) where
             ∙ stored-now .1
 
         abbrev Walks-so : Bool → PathResult → WrittenLeg → Type 0
-        Walks-so b r w = RouteWritten (sheet-of s c) c b (leg-limits (sheet-of s c) (x .next) .dnp) (last (take (x .path .written) ids)) (coverages-at (sheet-of s c) (x .path .covered) covered coverage) (x .path .covered) r out covered₁ coverage₁ w
+        Walks-so b r w = RouteWritten (sheet-of s c) c b (leg-limits (sheet-of s c) (x .next) .dnp) (x .path .written) ids (coverages-at (sheet-of s c) (x .path .covered) covered coverage) (x .path .covered) r ids₁ covered₁ coverage₁ w
 
         module _ (r : PathResult) (w : WrittenLeg) where
           -- of a line
@@ -203,8 +187,7 @@ module _ (s : List ℕ) (c : Counts) (slots : ℕ) where
                 record {
                   written = record {
                     roads =
-                        split (w .written) (walks .few)
-                        ∙ ap (λ (l : List ℕ). take (x .path .written) ids ++ l) (walks .roads)
+                        walks .roads
                         ∙ ap (λ (l : List ℕ). l ++ unwritten (last l) (road-numbers (roads-of r))) (stands .written .roads)
                         ∙ sym (append-numbers (k .roads) (roads-of r));
                     total-length = ap (λ (y : Float). y ⊕ w .segment .«length_m») (stands .written .total-length) ∙ ap (λ (y : decode.SegmentInfo). k .total-length ⊕ y .length-m) segment-is;
@@ -236,8 +219,7 @@ module _ (s : List ℕ) (c : Counts) (slots : ℕ) where
                 record {
                   written = record {
                     roads =
-                        split (w .written) (walks .few)
-                        ∙ ap (λ (l : List ℕ). take (x .path .written) ids ++ l) (walks .roads)
+                        walks .roads
                         ∙ ap (λ (n : ℕ). take n ids ++ unwritten (last (take n ids)) (road-numbers (roads-of r))) written
                         ∙ sym (skip-none (road-numbers (roads-of r)));
                     total-length = ap (λ (y : decode.SegmentInfo). y .length-m) (walks .segment);
@@ -256,7 +238,7 @@ module _ (s : List ℕ) (c : Counts) (slots : ℕ) where
           stored-on false two walks = point-stored (two refl) walks
 
         pub going-on : (e : LegWritten)
-            → LegEndWritten (sheet-of s c) c summed (leg-limits (sheet-of s c) (x .next) .dnp) (last (take (x .path .written) ids)) (coverages-at (sheet-of s c) (x .path .covered) covered coverage) (x .path .covered) (leg-end-from (sheet-of s c) slots (x .next)) out covered₁ coverage₁ e
+            → LegEndWritten (sheet-of s c) c summed (leg-limits (sheet-of s c) (x .next) .dnp) (x .path .written) ids (coverages-at (sheet-of s c) (x .path .covered) covered coverage) (x .path .covered) (leg-end-from (sheet-of s c) slots (x .next)) ids₁ covered₁ coverage₁ e
             → Going ids₁ covered₁ coverage₁ (advanced summed x (c .p) e)
         unfolding LegEndWritten So-far advanced after-leg
         going-on (E.Written w) left = record {

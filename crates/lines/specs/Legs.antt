@@ -2,8 +2,7 @@
 use Prim.Native.Nat.{ℕ, _+_, _*_, _≤_, _<_}
 use mathlib.Core.Path.{_≡_}
 use mathlib.Core.Bool.{Bool, cond}
-use mathlib.Core.Option.{Option}
-use mathlib.Core.List.{List, map}
+use mathlib.Core.List.{List, _++_, map}
 use lib.Dec.{eqb}
 use lib.ListN.{take, drop}
 use lib.Ieee.{Float}
@@ -11,6 +10,7 @@ use Rattle.model.specs.declared.Counts.{Counts}
 use Rattle.model.specs.declared.Road.{Road}
 use Rattle.model.specs.declared.Limits.{Limits}
 use Rattle.model.specs.Numbers.{_⊕_, f0}
+use Rattle.model.specs.Lists.{last}
 use Rattle.model.specs.Sheet.{Sheet}
 use Rattle.model.specs.View.{limits-of, view}
 use Rattle.model.specs.Search.{bounded-astar}
@@ -23,7 +23,7 @@ use Rattle.legs.specs.Found.{middle-search-at}
 use Rattle.legs.specs.declared.LegEnd as legs
 use Rattle.legs.specs.declared.LegEnd.the-variants as S
 use Rattle.search.specs.Answers.{RoadNumbers}
-use Rattle.courses.specs.Left.{Known, unwritten, coverages-at, cover-all}
+use Rattle.full_path.specs.Left.{path-of, middle-numbers, Walkable, Known, unwritten, coverages-at, cover-all}
 use Rattle.lines.specs.declared.SegmentInfo.{SegmentInfo}
 use Rattle.lines.specs.declared.WrittenLeg.{WrittenLeg}
 use Rattle.lines.specs.declared.LegWritten.{LegWritten}
@@ -48,15 +48,21 @@ segment-as g = record { length-m = g .«length_m»; expected-m = g .«expected_m
 abbrev pub road-numbers : List Road → List ℕ
 road-numbers rs = map (λ (x : Road). x .number) rs
 
--- a route that a leg found runs over roads of the sheet
-unfoldable pub KnownAs : Sheet → Counts → legs.LegEnd → List ℕ → Type 0
-KnownAs t c (S.Best r) area = Known t c r area
-KnownAs t c S.NoPath area = Unit {0}
-KnownAs t c S.HeapFull area = Unit {0}
+-- what a leg found, over the roads that the marks lead back over
+unfoldable pub leg-end-by : Sheet → List ℕ → legs.LegEnd → LegEnd
+leg-end-by t came (S.Best r) = best (path-of t r (middle-numbers t came (r .middle)))
+leg-end-by t came S.NoPath = no-path
+leg-end-by t came S.HeapFull = heap-full
 
--- The route r of a leg, left behind the road o and n0 coverages ks: its roads in `out`, its coverages, its segment.
-pub record RouteWritten (t : Sheet) (c : Counts) (summed : Bool) (dnp : Float) (o : Option ℕ) (ks : List EdgeCoverage) (n0 : ℕ) (r : PathResult) (out covered : List ℕ) (coverage : List Float) (w : WrittenLeg) : Type 0 where
-  pub roads : take (w .written) out ≡ unwritten o (road-numbers (roads-of r))
+-- a route that a leg found runs over roads of the sheet, and the marks lead back over its middle
+unfoldable pub KnownAs : Sheet → Counts → legs.LegEnd → List ℕ → Type 0
+KnownAs t c (S.Best r) came = Known t c r (middle-numbers t came (r .middle)) × Walkable t c came (r .middle)
+KnownAs t c S.NoPath came = Unit {0}
+KnownAs t c S.HeapFull came = Unit {0}
+
+-- The route r of a leg, left behind the first n numbers of `ids` and n0 coverages ks: its roads in the list ids₁, its coverages, its segment.
+pub record RouteWritten (t : Sheet) (c : Counts) (summed : Bool) (dnp : Float) (n : ℕ) (ids : List ℕ) (ks : List EdgeCoverage) (n0 : ℕ) (r : PathResult) (ids₁ covered : List ℕ) (coverage : List Float) (w : WrittenLeg) : Type 0 where
+  pub roads : take (n + w .written) ids₁ ≡ take n ids ++ unwritten (last (take n ids)) (road-numbers (roads-of r))
   pub coverages : coverages-at t (w .covered) covered coverage ≡ cover-all summed ks (r .coverages)
   pub segment : segment-as (w .segment) ≡ record { length-m = r .total-length; expected-m = dnp; start-offset-m = r .start-offset-m; end-offset-m = r .end-offset-m }
   pub few : w .written ≤ c .n + 1
@@ -64,10 +70,10 @@ pub record RouteWritten (t : Sheet) (c : Counts) (summed : Bool) (dnp : Float) (
   pub below : RoadNumbers (c .e) (w .covered) covered
 
 -- how a leg that finds `so` ends
-unfoldable pub LegEndWritten : Sheet → Counts → Bool → Float → Option ℕ → List EdgeCoverage → ℕ → LegEnd → List ℕ → List ℕ → List Float → LegWritten → Type 0
-LegEndWritten t c summed dnp o ks n0 so out covered coverage (E.Written w) = (r : PathResult) × (so ≡ best r) × RouteWritten t c summed dnp o ks n0 r out covered coverage w
-LegEndWritten t c summed dnp o ks n0 so out covered coverage E.NoPath = so ≡ no-path
-LegEndWritten t c summed dnp o ks n0 so out covered coverage E.HeapFull = so ≡ heap-full
+unfoldable pub LegEndWritten : Sheet → Counts → Bool → Float → ℕ → List ℕ → List EdgeCoverage → ℕ → LegEnd → List ℕ → List ℕ → List Float → LegWritten → Type 0
+LegEndWritten t c summed dnp n ids ks n0 so ids₁ covered coverage (E.Written w) = (r : PathResult) × (so ≡ best r) × RouteWritten t c summed dnp n ids ks n0 r ids₁ covered coverage w
+LegEndWritten t c summed dnp n ids ks n0 so ids₁ covered coverage E.NoPath = so ≡ no-path
+LegEndWritten t c summed dnp n ids ks n0 so ids₁ covered coverage E.HeapFull = so ≡ heap-full
 
 -- ---- all legs
 

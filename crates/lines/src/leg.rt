@@ -2,9 +2,8 @@
 use crate::LegWritten;
 use crate::SegmentInfo;
 use crate::WrittenLeg;
-use courses::Last;
-use courses::coverage;
-use courses::path;
+use full_path::coverage;
+use full_path::path;
 use legs::LegEnd;
 use model::Counts;
 use model::Limits;
@@ -15,11 +14,10 @@ ghost use mathlib.Core.Path.{_≡_};
 ghost use Prim.Native.Nat.{_+_, _≤_, _<_};
 ghost use lib.ListN.{length};
 ghost use Rattle.model.specs.Judge.{WellFormed};
-ghost use Rattle.model.specs.Sheet.{sheet-of, road-at};
-ghost use Rattle.legs.specs.Found.{leg-end-of};
+ghost use Rattle.model.specs.Sheet.{sheet-of};
 ghost use Rattle.search.specs.Answers.{RoadNumbers};
-ghost use Rattle.courses.specs.Left.{last-of, coverages-at};
-ghost use Rattle.lines.specs.Legs.{leg-limits, KnownAs, LegEndWritten};
+ghost use Rattle.full_path.specs.Left.{coverages-at};
+ghost use Rattle.lines.specs.Legs.{leg-limits, leg-end-by, KnownAs, LegEndWritten};
 
 // What the leg from point i accepts.
 pub fn leg_limits(s: &[u8], c: Counts, set: Settings, i: usize) -> Limits
@@ -30,31 +28,42 @@ pub fn leg_limits(s: &[u8], c: Counts, set: Settings, i: usize) -> Limits
     limits::limits_of(set, p)
 }
 
-// What a leg leaves of the route that it found: its roads in the front of `out`, but for a first one that is the last written, and its coverages behind the n0 that are there.
+// What a leg leaves of the route that it found: its roads behind the first `at` of `ids`, but for a first one that is the last written, and its coverages behind the n0 that are there.
 pub fn leave(
     s: &[u8],
     c: Counts,
     summed: bool,
     dnp: f64,
-    last: Last,
     found: LegEnd,
-    area: &[usize],
+    came_from: &[usize],
     n0: usize,
     covered: &mut [usize],
     coverage: &mut [f64],
-    out: &mut [u64],
+    at: usize,
+    ids: &mut [u64],
 ) -> LegWritten
-    requires { ⌜ WellFormed (now s) c × KnownAs (sheet-of (now s) c) c found (now area) × RoadNumbers (c .e) n0 (now covered) ⌝ }
-    requires { ⌜ (n0 + c .n + 1 ≤ length (now covered)) × (n0 + c .n + 1 ≤ length (now coverage)) × (c .n + 1 ≤ length (now out)) ⌝ }
-    ensures { λ r. ⌜ LegEndWritten (sheet-of (now (s .entry)) c) c summed dnp (last-of last) (coverages-at (sheet-of (now (s .entry)) c) n0 (now (covered .entry)) (now (coverage .entry))) n0
-        (leg-end-of (road-at (sheet-of (now (s .entry)) c)) found (now (area .entry))) (now (out .exit)) (now (covered .exit)) (now (coverage .exit)) r ⌝ }
+    requires { ⌜ WellFormed (now s) c × KnownAs (sheet-of (now s) c) c found (now «came_from») × RoadNumbers (c .e) n0 (now covered) ⌝ }
+    requires { ⌜ (n0 + c .n + 1 ≤ length (now covered)) × (n0 + c .n + 1 ≤ length (now coverage)) × (at + c .n + 1 ≤ length (now ids)) ⌝ }
+    ensures { λ r. ⌜ LegEndWritten (sheet-of (now (s .entry)) c) c summed dnp at (now (ids .entry)) (coverages-at (sheet-of (now (s .entry)) c) n0 (now (covered .entry)) (now (coverage .entry))) n0
+        (leg-end-by (sheet-of (now (s .entry)) c) (now («came_from» .entry)) found) (now (ids .exit)) (now (covered .exit)) (now (coverage .exit)) r ⌝ }
 {
     match found {
         LegEnd::Best(route) => {
-            let written = path::write_leg(last, route, area, out);
-            let count = coverage::cover_leg(s, c, summed, route, area, covered, coverage, n0);
+            let from = path::append_leg(s, c, route, came_from, at, ids);
+            let middle = from + path::terminals(route.head);
+            let count = coverage::cover_leg(
+                s,
+                c,
+                summed,
+                route,
+                &ids[middle..],
+                covered,
+                coverage,
+                n0,
+            );
+            let end = from + path::count_roads(route);
             LegWritten::Written(WrittenLeg {
-                written,
+                written: end - at,
                 covered: count,
                 segment: SegmentInfo {
                     length_m: route.total_length,

@@ -3,7 +3,6 @@ use crate::Legs;
 use crate::leg;
 use crate::steps;
 use candidates::find;
-use courses::path;
 use model::Counts;
 use model::Settings;
 ghost use mathlib.Core.Path.{_≡_};
@@ -11,7 +10,7 @@ ghost use mathlib.Core.Bool.{false};
 ghost use Prim.Native.Nat.{_+_, _<_};
 ghost use Rattle.model.specs.Judge.{WellFormed};
 ghost use Rattle.model.specs.Sheet.{sheet-of};
-ghost use Rattle.search.specs.Areas.{LegRoom, ListRoom};
+ghost use Rattle.search.specs.Areas.{SearchRoom, ListRoom};
 ghost use Rattle.lines.specs.Legs.{legs-of, LegsOutcome};
 
 // decode_line, where lengths and coverages are summed, and decode_point_along_line, whose one leg is not. Each leg writes behind the roads already there; the candidates of its end are those of the next leg's start.
@@ -23,8 +22,6 @@ pub fn walk_legs(
     slots: usize,
     labels: &mut [f64],
     came_from: &mut [usize],
-    route: &mut [usize],
-    best_route: &mut [usize],
     entries: &mut [f64],
     links: &mut [usize],
     covered: &mut [usize],
@@ -33,7 +30,7 @@ pub fn walk_legs(
 ) -> Legs
     requires { ⌜ WellFormed (now s) c × (set ≡ sheet-of (now s) c .settings) × (0 < c .n) × (0 < c .p) × (summed ≡ false → c .p ≡ 2) ⌝ }
     requires { ⌜ ListRoom c (now covered) (now coverage) (now ids) ⌝ }
-    requires { ⌜ LegRoom (c .n) slots (now labels) (now «came_from») (now route) (now «best_route») (now entries) (now links) ⌝ }
+    requires { ⌜ SearchRoom (c .n) slots (now labels) (now «came_from») (now entries) (now links) ⌝ }
     ensures { λ r. ⌜ LegsOutcome (sheet-of (now (s .entry)) c) c (legs-of summed (sheet-of (now (s .entry)) c) slots) (now (ids .exit)) (now (covered .exit)) (now (coverage .exit)) (r .end) (r .path) ⌝ }
 {
     let points = c.p;
@@ -42,7 +39,6 @@ pub fn walk_legs(
     while run.next + 1 < points {
         let at = run.path.written;
         let n0 = run.path.covered;
-        let last = path::last_written(ids, at);
         let to = run.next + 1;
         let ends = find::find_candidates(s, c, set, to);
         let b = leg::leg_limits(s, c, set, run.next);
@@ -55,8 +51,6 @@ pub fn walk_legs(
             slots,
             labels,
             came_from,
-            route,
-            best_route,
             entries,
             links,
         );
@@ -65,13 +59,13 @@ pub fn walk_legs(
             c,
             summed,
             b.dnp,
-            last,
             found,
-            best_route,
+            came_from,
             n0,
             covered,
             coverage,
-            &mut ids[at..],
+            at,
+            ids,
         );
         starts = ends;
         run = steps::advance(summed, run, points, end);

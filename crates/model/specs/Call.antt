@@ -28,7 +28,6 @@ pub record Lists : Type 0 where
 -- Nothing else of the areas matters: no result depends on what stands in them.
 pub record Lent : Type 0 where
   pub node : ℕ
-  pub route : ℕ
   pub heap : ℕ
   pub coverage : ℕ
   pub lists : Lists
@@ -87,7 +86,6 @@ most-entries points nodes = (points + 4) * (nodes + 1)
 unfoldable pub has-room : ℕ → ℕ → Lent → Bool
 has-room points nodes lent = all-of
     (leb nodes (lent .node)
-    ∷ leb (nodes + 1) (lent .route)
     ∷ leb 1 (lent .heap)
     ∷ leb (most-entries points nodes) (lent .coverage)
     ∷ leb (most-entries points nodes) (length (lent .lists .ids))

@@ -31,7 +31,7 @@ abbrev pub changed : ℕ → ℕ → List ℕ
 changed at byte = set (two-points 25 75) at byte
 
 abbrev pub small-areas : Lent
-small-areas = record { node = 1; route = 65; heap = 128; coverage = 256; lists = lists }
+small-areas = record { node = 1; heap = 128; coverage = 256; lists = lists }
 
 -- Three roads in a row, 0 to 1 to 2 to 3, with these ids; all node distances 0.
 abbrev pub three-roads : ℕ → List ℕ → List (List ℕ) → List (List ℕ) → List (List ℕ) → List ℕ

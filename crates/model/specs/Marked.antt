@@ -21,7 +21,7 @@ abbrev pub lists : Lists
 lists = record { ids = replicate 256 7; lengths = replicate 256 (nat 7) }
 
 abbrev pub with-heap : ℕ → Lent
-with-heap slots = record { node = 64; route = 65; heap = slots; coverage = 256; lists = lists }
+with-heap slots = record { node = 64; heap = slots; coverage = 256; lists = lists }
 
 abbrev pub lent : Lent
 lent = with-heap 128

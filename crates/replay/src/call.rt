@@ -16,27 +16,23 @@ fn call_with_heap(
     sheet: &[u8],
     labels: &mut [f64],
     came_from: &mut [usize],
-    route: &mut [usize],
-    best_route: &mut [usize],
     ids: &mut [u64],
     lengths: &mut [f64],
 ) -> Answer
-    requires { ⌜ at + 56 ≤ length (now file) ⌝ }
+    requires { ⌜ at + 52 ≤ length (now file) ⌝ }
 {
     let mut entries = metres_twice();
     let mut links = numbers_twice();
     let mut covered = numbers();
     let mut coverage = metres();
-    let entries_size = halves_at(file, at, 5);
-    let links_size = halves_at(file, at, 7);
-    let covered_size = size_at(file, at, 9);
-    let coverage_size = size_at(file, at, 10);
+    let entries_size = halves_at(file, at, 3);
+    let links_size = halves_at(file, at, 5);
+    let covered_size = size_at(file, at, 7);
+    let coverage_size = size_at(file, at, 8);
     decoder::decode(
         sheet,
         labels,
         came_from,
-        route,
-        best_route,
         &mut entries[..entries_size],
         &mut links[..links_size],
         &mut covered[..covered_size],
@@ -48,24 +44,18 @@ fn call_with_heap(
 
 // With all areas but the answer lists.
 pub fn call(file: &[u8], at: usize, sheet: &[u8], ids: &mut [u64], lengths: &mut [f64]) -> Answer
-    requires { ⌜ at + 56 ≤ length (now file) ⌝ }
+    requires { ⌜ at + 52 ≤ length (now file) ⌝ }
 {
     let mut labels = metres_twice();
     let mut came_from = numbers();
-    let mut route = numbers();
-    let mut best_route = numbers();
     let labels_size = halves_at(file, at, 0);
     let came_from_size = size_at(file, at, 2);
-    let route_size = size_at(file, at, 3);
-    let best_route_size = size_at(file, at, 4);
     call_with_heap(
         file,
         at,
         sheet,
         &mut labels[..labels_size],
         &mut came_from[..came_from_size],
-        &mut route[..route_size],
-        &mut best_route[..best_route_size],
         ids,
         lengths,
     )

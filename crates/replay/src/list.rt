@@ -23,13 +23,13 @@ pub struct Tally {
 
 // The number of cases; 0 where the file does not hold their records.
 fn listed(file: &[u8]) -> usize
-    ensures { λ r. ⌜ r * 56 ≤ length (now (file .entry)) - 4 ⌝ }
+    ensures { λ r. ⌜ r * 52 ≤ length (now (file .entry)) - 4 ⌝ }
 {
     if file.len() < 4 {
         return 0;
     }
     let n = count_at(file, 0);
-    if file.len() - 4 < n * 56 { 0 } else { n }
+    if file.len() - 4 < n * 52 { 0 } else { n }
 }
 
 // The call on lists that are as long as the case's, and the comparison.
@@ -41,7 +41,7 @@ fn run(
     ids: &mut [u64],
     lengths: &mut [f64],
 ) -> bool
-    requires { ⌜ (at + 56 ≤ length (now file)) × (e .place + 56 + 16 * e .roads ≤ length (now file)) ⌝ }
+    requires { ⌜ (at + 52 ≤ length (now file)) × (e .place + 56 + 16 * e .roads ≤ length (now file)) ⌝ }
     ensures { λ r. ⌜ (r ≡ true → Lists-agree (now (ids .exit)) (now (lengths .exit)) (now (file .entry)) e) ⌝ }
 {
     let answer = call(file, at, sheet, ids, lengths);
@@ -53,7 +53,7 @@ fn run(
 
 // Whether the case of the record at `at` gives what it expects. A record that points out of the file or asks for too much does not.
 fn agrees(file: &[u8], at: usize) -> bool
-    requires { ⌜ at + 56 ≤ length (now file) ⌝ }
+    requires { ⌜ at + 52 ≤ length (now file) ⌝ }
 {
     let sheet = count_at(file, at);
     let end = sheet + count_at(file, at + 4);
@@ -66,8 +66,8 @@ fn agrees(file: &[u8], at: usize) -> bool
     }
     let mut ids = identifiers();
     let mut lengths = metres();
-    let n = size_at(file, at, 11);
-    let m = size_at(file, at, 12);
+    let n = size_at(file, at, 9);
+    let m = size_at(file, at, 10);
     run(
         file,
         at,
@@ -80,10 +80,10 @@ fn agrees(file: &[u8], at: usize) -> bool
 
 // 0 where the case with number i agrees; else 1, and a line that says so.
 fn difference(file: &[u8], i: usize) -> usize
-    requires { ⌜ 4 + 56 * i + 56 ≤ length (now file) ⌝ }
+    requires { ⌜ 4 + 52 * i + 52 ≤ length (now file) ⌝ }
     ensures { λ r. ⌜ r ≤ 1 ⌝ }
 {
-    if agrees(file, 4 + 56 * i) {
+    if agrees(file, 4 + 52 * i) {
         return 0;
     }
     io::write_all(1, b"case ");
@@ -113,10 +113,10 @@ pub fn replay(file: &[u8]) -> Tally {
 
 // 1 where the case with number i differs from what it expects.
 fn noticed(file: &[u8], i: usize) -> usize
-    requires { ⌜ 4 + 56 * i + 56 ≤ length (now file) ⌝ }
+    requires { ⌜ 4 + 52 * i + 52 ≤ length (now file) ⌝ }
     ensures { λ r. ⌜ r ≤ 1 ⌝ }
 {
-    if agrees(file, 4 + 56 * i) { 0 } else { 1 }
+    if agrees(file, 4 + 52 * i) { 0 } else { 1 }
 }
 
 // Runs cases that expect something wrong.

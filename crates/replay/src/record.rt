@@ -1,5 +1,5 @@
-// A case's record, 56 bytes: u32 place and length of the sheet, place of the answer, roads of the path, number of the refusal (0: a match), A, B;
-// u16 entries of thirteen areas, in the order of the call, each half of an area of two halves for itself; u16 1 where the lists stay untouched, 0 where zeros stand behind the path.
+// A case's record, 52 bytes: u32 place and length of the sheet, place of the answer, roads of the path, number of the refusal (0: a match), A, B;
+// u16 entries of eleven areas, in the order of the call, each half of an area of two halves for itself; u16 1 where the lists stay untouched, 0 where zeros stand behind the path.
 // The answer of a match: length, offset and fraction at the start, offset and fraction at the end, u64 id of the primary road, its coverage; then u64 id and length of each road. An f64 is stored by its bits.
 use crate::areas::MOST;
 use fields::count_at;
@@ -18,7 +18,7 @@ pub struct Expected {
 }
 
 pub fn expected_at(file: &[u8], at: usize) -> Expected
-    requires { ⌜ at + 56 ≤ length (now file) ⌝ }
+    requires { ⌜ at + 52 ≤ length (now file) ⌝ }
     ensures { λ r. ⌜ (r .place < 2 ^ 32) × (r .roads < 2 ^ 32) ⌝ }
 {
     let place = count_at(file, at + 8);
@@ -26,7 +26,7 @@ pub fn expected_at(file: &[u8], at: usize) -> Expected
     let number = count_at(file, at + 16);
     let a = count_at(file, at + 20);
     let b = count_at(file, at + 24);
-    let untouched = u16_at(file, at + 54) as usize;
+    let untouched = u16_at(file, at + 50) as usize;
     Expected {
         number,
         a,
@@ -39,7 +39,7 @@ pub fn expected_at(file: &[u8], at: usize) -> Expected
 
 // The entries of area k, at most MOST.
 pub fn size_at(file: &[u8], at: usize, k: usize) -> usize
-    requires { ⌜ (at + 56 ≤ length (now file)) × (k < 13) ⌝ }
+    requires { ⌜ (at + 52 ≤ length (now file)) × (k < 11) ⌝ }
     ensures { λ r. ⌜ r ≤ 1024 ⌝ }
 {
     let size = u16_at(file, at + 28 + 2 * k) as usize;
@@ -48,7 +48,7 @@ pub fn size_at(file: &[u8], at: usize, k: usize) -> usize
 
 // The places of an area whose halves are the areas k and k + 1: twice the lesser of their entries.
 pub fn halves_at(file: &[u8], at: usize, k: usize) -> usize
-    requires { ⌜ (at + 56 ≤ length (now file)) × (k + 1 < 13) ⌝ }
+    requires { ⌜ (at + 52 ≤ length (now file)) × (k + 1 < 11) ⌝ }
     ensures { λ r. ⌜ r ≤ 2048 ⌝ }
 {
     let a = size_at(file, at, k);
@@ -58,10 +58,10 @@ pub fn halves_at(file: &[u8], at: usize, k: usize) -> usize
 
 // Whether every area has at most MOST entries.
 pub fn sizes_fit(file: &[u8], at: usize) -> bool
-    requires { ⌜ at + 56 ≤ length (now file) ⌝ }
+    requires { ⌜ at + 52 ≤ length (now file) ⌝ }
 {
     let mut k = 0;
-    while k < 13 {
+    while k < 11 {
         if MOST < u16_at(file, at + 28 + 2 * k) as usize {
             return false;
         }

@@ -13,7 +13,7 @@ use Rattle.text.specs.Text.{text-of, large}
 
 -- what it lends
 abbrev pub areas : Lent
-areas = record { node = 64; route = 65; heap = 128; coverage = 256; lists = record { ids = replicate 256 0; lengths = replicate 256 f0 } }
+areas = record { node = 64; heap = 128; coverage = 256; lists = record { ids = replicate 256 0; lengths = replicate 256 f0 } }
 
 -- the text of the decoded sheet, if it has at most 48 KiB
 unfoldable pub listing : List ℕ → List ℕ

@@ -14,8 +14,6 @@ fn decode_text(sheet: &[u8], out: &mut [u8]) -> Written
 {
     let mut labels = [0.0; 128];
     let mut came_from = [0usize; 64];
-    let mut route = [0usize; 65];
-    let mut best_route = [0usize; 65];
     let mut entries = [0.0; 256];
     let mut links = [0usize; 256];
     let mut covered = [0usize; 256];
@@ -26,8 +24,6 @@ fn decode_text(sheet: &[u8], out: &mut [u8]) -> Written
         sheet,
         &mut labels,
         &mut came_from,
-        &mut route,
-        &mut best_route,
         &mut entries,
         &mut links,
         &mut covered,

@@ -1,16 +1,19 @@
--- What the code's records stand for. The middle of a path stands in a lent area, by the numbers of its roads.
-use Prim.Native.Nat.{ℕ}
+-- What the code's records stand for. The roads between the terminal ones of a path are what its search finds.
 use mathlib.Core.Path.{_≡_}
 use mathlib.Core.Option.{Option}
 use mathlib.Core.List.{List, _++_, map}
 use lib.ListN.{take}
 use Rattle.model.specs.declared.Road.{Road}
 use Rattle.model.specs.Lists.{when}
+use Rattle.model.specs.Numbers.{f0}
+use Rattle.model.specs.Search.{none-found}
 use Rattle.model.specs.Legs as legs
-use Rattle.model.specs.Legs.{EdgeCoverage, Scored, Pair, pair, terminal, whole}
+use Rattle.model.specs.Legs.{EdgeCoverage, Scored, Pair, MiddleSearch, pair, terminal, whole}
 use Rattle.candidates.specs.declared.candidate.Candidate.{Candidate}
 use Rattle.candidates.specs.Found.{on}
-use Rattle.rules.specs.declared.Terminal.{Terminal}
+use Rattle.search.specs.Answers.{roads-in}
+use Rattle.rules.specs.declared.TerminalEdge.{TerminalEdge}
+use Rattle.rules.specs.declared.Middle.{Middle}
 use Rattle.rules.specs.declared.PathResult.{PathResult}
 use Rattle.rules.specs.declared.Best.{Best}
 
@@ -18,21 +21,31 @@ use Rattle.rules.specs.declared.Best.{Best}
 abbrev pub pair-as : Candidate → Road → Candidate → Road → Pair
 pair-as start first end last = pair (on first start) (on last end)
 
-abbrev pub terminal-of : Terminal → List EdgeCoverage
+abbrev pub terminal-of : TerminalEdge → List EdgeCoverage
 terminal-of p = terminal (p .kept) (p .road) (p .«coverage_m»)
 
--- the path, with the front of the area as its middle
-abbrev pub path-of : (ℕ → Road) → PathResult → List ℕ → legs.PathResult
-path-of roads r area = record {
-  coverages = terminal-of (r .head) ++ map whole (map roads (take (r .count) area)) ++ terminal-of (r .tail);
+-- the path over these roads between its terminal ones
+abbrev pub with-middle : PathResult → List Road → legs.PathResult
+with-middle r middle = record {
+  coverages = terminal-of (r .head) ++ map whole middle ++ terminal-of (r .tail);
   total-length = r .«total_length»;
   start-offset-m = r .«start_offset_m»;
   end-offset-m = r .«end_offset_m»;
 }
 
-unfoldable pub best-of : (ℕ → Road) → Best → List ℕ → Option Scored
-best-of roads b area = when (b .found) record { path = path-of roads (b .path) area; score = b .score }
+abbrev pub no-middle : Middle
+no-middle = record { start = 0; goal = 0; bound = f0; count = 0 }
 
--- b stands for s, whatever stands in the area
+-- its search, once more
+unfoldable pub middle-in : MiddleSearch → Middle → List Road
+middle-in search m = take (m .count) (roads-in (search (m .start) (m .goal) (m .bound)))
+
+abbrev pub no-search : MiddleSearch
+no-search start goal bound = none-found
+
+unfoldable pub best-of : MiddleSearch → Best → Option Scored
+best-of search b = when (b .found) record { path = with-middle (b .path) (middle-in search (b .path .middle)); score = b .score }
+
+-- b stands for s, whatever a search finds
 abbrev pub BestIs : Best → Option Scored → Type 0
-BestIs b s = (roads : ℕ → Road) (area : List ℕ) → best-of roads b area ≡ s
+BestIs b s = (search : MiddleSearch) → best-of search b ≡ s

@@ -2,22 +2,32 @@
 ghost use mathlib.Core.Path.{_≡_};
 ghost use mathlib.Core.Bool.{cond};
 ghost use mathlib.Core.Option.{none};
-ghost use mathlib.Core.List.{List, []};
-ghost use Prim.Native.Nat.{ℕ};
-ghost use Rattle.model.specs.declared.Road.{Road};
-ghost use Rattle.model.specs.Legs.{same-edge-scored, best-score, improve, first-or-better};
-ghost use Rattle.rules.specs.Code.{pair-as, best-of, BestIs};
+ghost use Rattle.model.specs.Legs.{MiddleSearch, same-edge-scored, best-score, improve, first-or-better};
+ghost use Rattle.rules.specs.Code.{pair-as, no-middle, no-search, best-of, BestIs};
 use crate::Best;
+use crate::Middle;
 use crate::PathResult;
-use crate::Terminal;
+use crate::TerminalEdge;
 use crate::lengths;
 use candidates::candidate::Candidate;
 use model::Limits;
 use model::Road;
 
+// No roads between.
+fn no_middle() -> Middle
+    ensures { λ r. ⌜ r ≡ no-middle ⌝ }
+{
+    Middle {
+        start: 0,
+        goal: 0,
+        bound: 0.0,
+        count: 0,
+    }
+}
+
 // No path yet.
 pub fn no_best() -> Best
-    ensures { λ r. ⌜ BestIs r none ⌝ }
+    ensures { λ r. ⌜ BestIs r none × (r .path .middle .count ≡ 0) ⌝ }
 {
     let road = Road {
         number: 0,
@@ -29,11 +39,12 @@ pub fn no_best() -> Best
         fow: 0,
         access: false,
     };
-    let part = Terminal {
+    let part = TerminalEdge {
         kept: false,
         road,
         coverage_m: 0.0,
     };
+    let middle = no_middle();
     Best {
         found: false,
         score: 0.0,
@@ -42,7 +53,7 @@ pub fn no_best() -> Best
             start_offset_m: 0.0,
             end_offset_m: 0.0,
             head: part,
-            count: 0,
+            middle,
             tail: part,
         },
     }
@@ -63,6 +74,7 @@ pub fn same_edge_scored(
     let score = lengths::score_of(b, start, first, end, last, total);
     let start_offset = lengths::start_offset(start, first);
     let end_offset = first.length_m * (1.0 - end.projection_fraction);
+    let middle = no_middle();
     Best {
         found,
         score,
@@ -70,13 +82,13 @@ pub fn same_edge_scored(
             total_length: total,
             start_offset_m: start_offset,
             end_offset_m: end_offset,
-            head: Terminal {
+            head: TerminalEdge {
                 kept: true,
                 road: first,
                 coverage_m: total,
             },
-            count: 0,
-            tail: Terminal {
+            middle,
+            tail: TerminalEdge {
                 kept: false,
                 road: first,
                 coverage_m: 0.0,
@@ -87,7 +99,7 @@ pub fn same_edge_scored(
 
 // The score to beat: f64::MAX where there is no path.
 pub fn best_score(best: Best) -> f64
-    ensures { λ r. ⌜ ((roads : ℕ → Road) (area : List ℕ) → r ≡ best-score (best-of roads best area)) ⌝ }
+    ensures { λ r. ⌜ ((search : MiddleSearch) → r ≡ best-score (best-of search best)) ⌝ }
 {
     if best.found {
         best.score
@@ -98,7 +110,7 @@ pub fn best_score(best: Best) -> f64
 
 // Whether the next path takes the place of the best one: only on a strictly lower score.
 pub fn improves(best: Best, next: Best) -> bool
-    ensures { λ r. ⌜ ((roads : ℕ → Road) (old new : List ℕ) → cond r (best-of roads next new) (best-of roads best old) ≡ improve (best-of roads best old) (best-of roads next new)) ⌝ }
+    ensures { λ r. ⌜ ((search : MiddleSearch) → cond r (best-of search next) (best-of search best) ≡ improve (best-of search best) (best-of search next)) ⌝ }
 {
     if next.found {
         return next.score < best_score(best);
@@ -108,14 +120,14 @@ pub fn improves(best: Best, next: Best) -> bool
 
 // The better of the two.
 pub fn improve(best: Best, next: Best) -> Best
-    ensures { λ r. ⌜ ((roads : ℕ → Road) (area : List ℕ) → best-of roads r area ≡ improve (best-of roads best area) (best-of roads next area)) ⌝ }
+    ensures { λ r. ⌜ ((search : MiddleSearch) → best-of search r ≡ improve (best-of search best) (best-of search next)) ⌝ }
 {
     if improves(best, next) { next } else { best }
 }
 
 // The same, but the first one counts whatever its score is.
 pub fn first_or_better(best: Best, next: Best) -> Best
-    ensures { λ r. ⌜ ((roads : ℕ → Road) (area : List ℕ) → best-of roads r area ≡ first-or-better (best-of roads best area) (best-of roads next area)) ⌝ }
+    ensures { λ r. ⌜ ((search : MiddleSearch) → best-of search r ≡ first-or-better (best-of search best) (best-of search next)) ⌝ }
 {
     if best.found {
         improve(best, next)
@@ -126,9 +138,22 @@ pub fn first_or_better(best: Best, next: Best) -> Best
 
 // The path on its terminal roads alone.
 pub fn without_middle(b: Best) -> Best
-    ensures { λ r. ⌜ (r .path .count ≡ 0) × ((roads : ℕ → Road) (area : List ℕ) → best-of roads r area ≡ best-of roads b []) ⌝ }
+    ensures { λ r. ⌜ (r .path .middle .count ≡ 0) × ((search : MiddleSearch) → best-of search r ≡ best-of no-search b) ⌝ }
 {
-    let mut r = b;
-    r.path.count = 0;
-    r
+    let route = b.path;
+    let head = route.head;
+    let tail = route.tail;
+    let middle = no_middle();
+    Best {
+        found: b.found,
+        score: b.score,
+        path: PathResult {
+            total_length: route.total_length,
+            start_offset_m: route.start_offset_m,
+            end_offset_m: route.end_offset_m,
+            head,
+            middle,
+            tail,
+        },
+    }
 }

@@ -1,11 +1,8 @@
 // The best path on one road.
 ghost use mathlib.Core.Path.{_≡_};
-ghost use mathlib.Core.List.{List};
-ghost use Prim.Native.Nat.{ℕ};
-ghost use Rattle.model.specs.declared.Road.{Road};
 ghost use Rattle.model.specs.Judge.{WellFormed};
 ghost use Rattle.model.specs.Sheet.{sheet-of};
-ghost use Rattle.model.specs.Legs.{pairs, close, take-close, try-same-edge-solution};
+ghost use Rattle.model.specs.Legs.{MiddleSearch, pairs, close, take-close, try-same-edge-solution};
 ghost use Rattle.candidates.specs.Found.{held, CandidatesReady};
 ghost use Rattle.rules.specs.Code.{pair-as, best-of, BestIs};
 use crate::Best;
@@ -43,7 +40,7 @@ fn take_close(
     end: Candidate,
     last: Road,
 ) -> Best
-    ensures { λ r. ⌜ ((roads : ℕ → Road) (area : List ℕ) → best-of roads r area ≡ take-close b (best-of roads best area) (pair-as start first end last)) ⌝ }
+    ensures { λ r. ⌜ ((search : MiddleSearch) → best-of search r ≡ take-close b (best-of search best) (pair-as start first end last)) ⌝ }
 {
     if close(b, start, first, end, last) {
         let next = routes::same_edge_scored(b, start, first, end, last);

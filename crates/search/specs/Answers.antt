@@ -3,9 +3,11 @@ use Prim.Native.Nat.{ℕ, _≤_, _<_}
 use mathlib.Core.Path.{_≡_}
 use mathlib.Core.Option.{Option, none, some}
 use mathlib.Core.List.{List, [], map}
-use lib.ListN.{getD, take}
+use lib.ListN.{length, getD}
 use lib.Ieee.{Float}
+use Rattle.model.specs.declared.Counts.{Counts}
 use Rattle.model.specs.declared.Road.{Road}
+use Rattle.model.specs.Sheet.{Sheet, road-at}
 use Rattle.model.specs.Search.{Query, found, none-found, full, Label, Entry, State, label-at, real-of, trace, Step, stop, more}
 use Rattle.model.specs.Search as astar
 use Rattle.search.specs.declared.offers.Offer.{Offer}
@@ -17,7 +19,7 @@ use Rattle.search.specs.declared.turns.Progress.the-variants as P
 use Rattle.search.specs.declared.turns.SearchTurn.{SearchTurn}
 use Rattle.search.specs.declared.SearchEnd.{SearchEnd}
 use Rattle.search.specs.declared.SearchEnd.the-variants as S
-use Rattle.search.specs.Areas.{marked, Columns, Reached, Proper, AreasKept, Back}
+use Rattle.search.specs.Areas.{marked, Columns, Reached, Proper, AreasKept, Back, back-way, LeadsBack}
 
 -- ---- one road
 
@@ -86,18 +88,32 @@ GoalReached n e roads goal P.Looking came = Unit {0}
 GoalReached n e roads goal P.Found came = Back n e roads came goal
 GoalReached n e roads goal P.Full came = Unit {0}
 
--- the roads stand in the front of the route, in travel order
-unfoldable pub search-end-of : (ℕ → Road) → SearchEnd → List ℕ → astar.SearchEnd
-search-end-of roads (S.Found cost n) route = found cost (map roads (take n route))
-search-end-of roads S.Nothing route = none-found
-search-end-of roads S.Full route = full
+-- what a search tells: of the roads found, how many they are
+unfoldable pub told : astar.SearchEnd → SearchEnd
+told (found cost way) = S.Found cost (length way)
+told none-found = S.Nothing
+told full = S.Full
 
--- the first k of the route are numbers of the e roads
+-- the roads found
+unfoldable pub roads-in : astar.SearchEnd → List Road
+roads-in (found cost way) = way
+roads-in none-found = []
+roads-in full = []
+
+-- The marks lead back from the goal over the k roads of the way, fewer than there are nodes.
+pub record WayBack (t : Sheet) (c : Counts) (goal : ℕ) (came : List ℕ) (k : ℕ) (way : List Road) : Type 0 where
+  pub inside : goal < c .n
+  pub size : c .n ≤ length came
+  pub few : k < c .n
+  pub leads : LeadsBack (road-at t) (c .e) came k goal
+  pub roads : map (road-at t) (back-way (road-at t) came k goal) ≡ way
+
+-- where a way was found
+unfoldable pub Traced : Sheet → Counts → ℕ → List ℕ → SearchEnd → List Road → Type 0
+Traced t c goal came (S.Found cost k) way = WayBack t c goal came k way
+Traced t c goal came S.Nothing way = Unit {0}
+Traced t c goal came S.Full way = Unit {0}
+
+-- the first k numbers of a list are those of the e roads
 abbrev pub RoadNumbers : ℕ → ℕ → List ℕ → Type 0
-RoadNumbers e k route = (j : ℕ) → j < k → getD route j 0 < e
-
--- the roads found are fewer than the n nodes, and the route holds their numbers
-unfoldable pub RouteHeld : ℕ → ℕ → SearchEnd → List ℕ → Type 0
-RouteHeld n e (S.Found cost k) route = (k < n) × RoadNumbers e k route
-RouteHeld n e S.Nothing route = Unit {0}
-RouteHeld n e S.Full route = Unit {0}
+RoadNumbers e k xs = (j : ℕ) → j < k → getD xs j 0 < e

@@ -4,7 +4,7 @@ use mathlib.Core.Path.{_≡_}
 use mathlib.Core.Logic.{_⊎_, _≢_}
 use mathlib.Core.Bool.{cond}
 use mathlib.Core.Option.{Option, none, some}
-use mathlib.Core.List.{List}
+use mathlib.Core.List.{List, [], _∷_, _++_}
 use lib.Dec.{eqb}
 use lib.ListN.{length, getD, take, drop}
 use lib.Ieee.{Float, nan}
@@ -100,13 +100,9 @@ pub record Sized (n slots : ℕ) (a : Columns) : Type 0 where
 
 -- ---- what is lent, with room
 
--- for a search over n nodes with a heap of `slots` entries, and the route that it finds
-abbrev pub SearchRoom : ℕ → ℕ → List Float → List ℕ → List ℕ → List Float → List ℕ → Type 0
-SearchRoom n slots labels came route entries links = (0 < slots) × (n ≤ length route) × Sized n slots (columns n slots labels came entries links 0 0)
-
--- for the searches of a leg, and its best route
-abbrev pub LegRoom : ℕ → ℕ → List Float → List ℕ → List ℕ → List ℕ → List Float → List ℕ → Type 0
-LegRoom n slots labels came route best-route entries links = (0 < slots) × (n ≤ length route) × (n ≤ length best-route) × Sized n slots (columns n slots labels came entries links 0 0)
+-- for a search over n nodes with a heap of `slots` entries
+abbrev pub SearchRoom : ℕ → ℕ → List Float → List ℕ → List Float → List ℕ → Type 0
+SearchRoom n slots labels came entries links = (0 < slots) × Sized n slots (columns n slots labels came entries links 0 0)
 
 -- for the coverages and the roads of all legs
 abbrev pub ListRoom : Counts → List ℕ → List Float → List ℕ → Type 0
@@ -163,3 +159,13 @@ pub record Back (n e : ℕ) (roads : ℕ → Road) (came : List ℕ) (goal : ℕ
   pub marks : (v : ℕ) → v < n → MarkOrRoad e (getD came v 0)
   pub reached : getD came goal 0 ≢ unreached
   pub ends : EndsWithin roads e came (n - 1) goal
+
+-- the last k roads back from node v, in travel order
+unfoldable pub back-way : (ℕ → Road) → List ℕ → ℕ → ℕ → List ℕ
+back-way roads came zero v = []
+back-way roads came (suc k) v = back-way roads came k (roads (getD came v 0) .source) ++ getD came v 0 ∷ []
+
+-- there are that many: each mark is the number of one of e roads
+unfoldable pub LeadsBack : (ℕ → Road) → ℕ → List ℕ → ℕ → ℕ → Type 0
+LeadsBack roads e came zero v = Unit {0}
+LeadsBack roads e came (suc k) v = (getD came v 0 < e) × LeadsBack roads e came k (roads (getD came v 0) .source)

@@ -13,12 +13,12 @@ use sheet::distances;
 ghost use mathlib.Core.Path.{_≡_};
 ghost use Prim.Native.Nat.{ℕ, _≤_, _<_};
 ghost use Rattle.model.specs.Judge.{WellFormed};
-ghost use Rattle.model.specs.Sheet.{sheet-of, road-at};
+ghost use Rattle.model.specs.Sheet.{sheet-of};
 ghost use Rattle.model.specs.Search.{search-within, bounded-astar};
 ghost use Rattle.bounds.specs.Amounts.{Amount};
 ghost use Rattle.search.specs.Query.{query-on, query-at};
 ghost use Rattle.search.specs.Areas.{columns, labels-at, Sized, SearchRoom};
-ghost use Rattle.search.specs.Answers.{SearchState, end-of-search, search-end-of, RouteHeld};
+ghost use Rattle.search.specs.Answers.{SearchState, end-of-search, told, roads-in, Traced};
 
 // What a search is asked: the way from `start` to `goal`, no path longer than `max_cost` metres, under the constraints of its leg.
 pub struct Query {
@@ -65,7 +65,7 @@ fn search_from_start(
     turns::run_search(s, c, query, row, slots, labels, came_from, entries, links)
 }
 
-// The bounded A* search from `query.start` to `query.goal`, with a heap of `slots` entries. The roads found stand in the front of `route`, in travel order.
+// The bounded A* search from `query.start` to `query.goal`, with a heap of `slots` entries. Where it is found, the roads lead back from the goal by `came_from`.
 // The penalties are amounts, so that labels never fall along a way and the walk back needs no test for its end: those of the settings are (`slip-amount`, `access-amount`).
 pub fn bounded_astar(
     s: &[u8],
@@ -74,19 +74,18 @@ pub fn bounded_astar(
     slots: usize,
     labels: &mut [f64],
     came_from: &mut [usize],
-    route: &mut [usize],
     entries: &mut [f64],
     links: &mut [usize],
 ) -> Searched
     requires { ⌜ WellFormed (now s) c × (query .start < c .n) × (query .goal < c .n) × Amount (query .constraints .«slip_road_cost_penalty») × Amount (query .constraints .«access_road_cost_penalty») ⌝ }
-    requires { ⌜ SearchRoom (c .n) slots (now labels) (now «came_from») (now route) (now entries) (now links) ⌝ }
-    ensures found { λ r. ⌜ search-end-of (road-at (sheet-of (now (s .entry)) c)) (r .end) (now (route .exit)) ≡ bounded-astar slots (query-on (sheet-of (now (s .entry)) c) query) (query .start) ⌝ }
+    requires { ⌜ SearchRoom (c .n) slots (now labels) (now «came_from») (now entries) (now links) ⌝ }
+    ensures found { λ r. ⌜ r .end ≡ told (bounded-astar slots (query-on (sheet-of (now (s .entry)) c) query) (query .start)) ⌝ }
     ensures entries { λ r. ⌜ r .entries ≤ slots ⌝ }
-    ensures holds { λ r. ⌜ RouteHeld (c .n) (c .e) (r .end) (now (route .exit)) ⌝ }
+    ensures traced { λ r. ⌜ Traced (sheet-of (now (s .entry)) c) c (query .goal) (now («came_from» .exit)) (r .end) (roads-in (bounded-astar slots (query-on (sheet-of (now (s .entry)) c) query) (query .start))) ⌝ }
 {
     let t = search_from_start(s, c, query, slots, labels, came_from, entries, links);
     let progress = t.progress;
     let entries = t.made;
-    let end = route::trace_route(s, c, query, progress, labels, came_from, route);
+    let end = route::end_of_search(s, c, query, progress, labels, came_from);
     Searched { end, entries }
 }

@@ -12,8 +12,8 @@ use sheets::Areas;
 /// The least areas for a sheet of so many points and nodes; None above the limits of either.
 pub fn least_areas(points: usize, nodes: usize) -> Option<Areas> {
     let s = ffi::sizes(points, nodes);
-    let none = [s.node, s.route, s.heap_least, s.list] == [0; 4];
-    (!none).then(|| Areas::of(s.node, s.route, s.heap_least, s.list, s.list))
+    let none = [s.node, s.heap_least, s.list] == [0; 3];
+    (!none).then(|| Areas::of(s.node, s.heap_least, s.list, s.list))
 }
 
 /// What stands in the answer lists before a call, and behind them.
@@ -27,7 +27,7 @@ const GUARD: usize = 8;
 #[derive(Default)]
 pub struct Port {
     floats: [Vec<f64>; 3],
-    numbers: [Vec<usize>; 5],
+    numbers: [Vec<usize>; 3],
     ids: Vec<u64>,
     lengths: Vec<f64>,
 }
@@ -59,8 +59,8 @@ impl Port {
     /// One call. An error says what is wrong with the lists.
     pub fn call(&mut self, sheet: &[u8], areas: &Areas) -> Result<Outcome, String> {
         let size = areas.0;
-        self.ids = vec![ID; size[11] + GUARD];
-        self.lengths = vec![LENGTH; size[12] + GUARD];
+        self.ids = vec![ID; size[9] + GUARD];
+        self.lengths = vec![LENGTH; size[10] + GUARD];
         let answered = self.decode(sheet, &size);
         let outcome = self.outcome(&answered, &size)?;
         if outcome.untouched() {
@@ -76,25 +76,23 @@ impl Port {
         self.decode(sheet, &areas.0).number
     }
 
-    fn decode(&mut self, sheet: &[u8], size: &[usize; 13]) -> Answered {
+    fn decode(&mut self, sheet: &[u8], size: &[usize; 11]) -> Answered {
         let [labels, entries, coverage] = &mut self.floats;
-        let [came_from, route, best_route, links, covered] = &mut self.numbers;
+        let [came_from, links, covered] = &mut self.numbers;
         let lent = Lent {
             labels: front(labels, halves(size[0], size[1]), f64::NAN),
             came_from: front(came_from, size[2], 1),
-            route: front(route, size[3], usize::MAX),
-            best_route: front(best_route, size[4], 3),
-            entries: front(entries, halves(size[5], size[6]), f64::NEG_INFINITY),
-            links: front(links, halves(size[7], size[8]), usize::MAX),
-            covered: front(covered, size[9], 0),
-            coverage: front(coverage, size[10], 1e300),
-            ids: front(&mut self.ids, size[11], ID),
-            lengths: front(&mut self.lengths, size[12], LENGTH),
+            entries: front(entries, halves(size[3], size[4]), f64::NEG_INFINITY),
+            links: front(links, halves(size[5], size[6]), usize::MAX),
+            covered: front(covered, size[7], 0),
+            coverage: front(coverage, size[8], 1e300),
+            ids: front(&mut self.ids, size[9], ID),
+            lengths: front(&mut self.lengths, size[10], LENGTH),
         };
         ffi::decode(sheet, lent)
     }
 
-    fn outcome(&self, a: &Answered, size: &[usize; 13]) -> Result<Outcome, String> {
+    fn outcome(&self, a: &Answered, size: &[usize; 11]) -> Result<Outcome, String> {
         let floats = [
             a.length_m,
             a.start_offset,
@@ -110,7 +108,7 @@ impl Port {
                 false => Err(format!("refusal {} carries more than its places", a.number)),
             };
         }
-        if a.count > size[11].min(size[12]) || (a.a, a.b) != (0, 0) {
+        if a.count > size[9].min(size[10]) || (a.a, a.b) != (0, 0) {
             return Err(format!(
                 "a match of {} roads with places {} {}",
                 a.count, a.a, a.b
@@ -134,10 +132,10 @@ impl Port {
     }
 
     /// Whether this id and length stand in the lists from an entry on, and the old ones behind the lists.
-    fn rest_is(&self, from: usize, id: u64, length: f64, size: &[usize; 13]) -> Result<(), String> {
+    fn rest_is(&self, from: usize, id: u64, length: f64, size: &[usize; 11]) -> Result<(), String> {
         let same = |a: f64, b: f64| a.to_bits() == b.to_bits();
-        let (ids, behind) = self.ids.split_at(size[11]);
-        let (lengths, behind_lengths) = self.lengths.split_at(size[12]);
+        let (ids, behind) = self.ids.split_at(size[9]);
+        let (lengths, behind_lengths) = self.lengths.split_at(size[10]);
         let ids_good = ids[from..].iter().all(|x| *x == id) && behind.iter().all(|x| *x == ID);
         let lengths_good = lengths[from..].iter().all(|x| same(*x, length))
             && behind_lengths.iter().all(|x| same(*x, LENGTH));

@@ -1,7 +1,7 @@
 //! A case by its kind and seed: bytes, areas, and what the oracle answers.
 
 use crate::{call::call, judge, Decoded, Outcome};
-use sheets::{damage, families, Areas, Random, Sheet};
+use sheets::{areas::DRAWN, damage, families, Areas, Random, Sheet};
 
 #[derive(Debug, Clone, Copy, PartialEq, Eq)]
 pub enum Kind {
@@ -74,10 +74,11 @@ fn heap(r: &mut Random, most: usize) -> usize {
 
 /// Half of the areas somewhat larger; of the heap's four parts one stays, which is the heap's size.
 fn slack(r: &mut Random, mut areas: Areas) -> Areas {
-    let kept = 5 + r.below(4);
-    for i in (0..13).filter(|i| *i != kept) {
-        if r.chance(50) {
-            areas.0[i] += r.below(6);
+    let kept = Some(3 + r.below(4));
+    for area in DRAWN.into_iter().filter(|area| *area != kept) {
+        let more = if r.chance(50) { r.below(6) } else { 0 };
+        if let Some(i) = area {
+            areas.0[i] += more;
         }
     }
     areas

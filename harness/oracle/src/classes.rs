@@ -95,7 +95,7 @@ fn fault(bytes: &[u8], a: usize) -> &'static str {
 /// The first area that is too small, by one or by more.
 fn short_area(bytes: &[u8], given: &Areas) -> String {
     let least = Areas::least(word(bytes, 4), word(bytes, 8), 1);
-    let short = (0..13).find(|i| given.0[*i] < least.0[*i]).unwrap();
+    let short = (0..11).find(|i| given.0[*i] < least.0[*i]).unwrap();
     let by = match least.0[short] - given.0[short] {
         1 => "one",
         _ => "more",

@@ -112,10 +112,7 @@ pub(crate) fn wrong_layout(bytes: &[u8], h: &Head) -> Vec<&'static str> {
 }
 
 fn too_small(h: &Head, areas: &Areas) -> bool {
-    areas.nodes() < h.nodes
-        || areas.routes() < h.nodes + 1
-        || areas.heap() < 1
-        || areas.lists() < (h.points + 4) * (h.nodes + 1)
+    areas.nodes() < h.nodes || areas.heap() < 1 || areas.lists() < (h.points + 4) * (h.nodes + 1)
 }
 
 /// Reads a sheet field by field. An error is the offset of the first field out of range, or of the first spare byte that is not zero.

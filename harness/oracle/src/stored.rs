@@ -7,10 +7,10 @@ use sheets::Areas;
 pub const MOST_ENTRIES: usize = 1024;
 
 /// The bytes of a record.
-pub const RECORD: usize = 56;
+pub const RECORD: usize = 52;
 
 /// Where a record says that the lists stay untouched.
-pub const UNTOUCHED: usize = 54;
+pub const UNTOUCHED: usize = 50;
 
 #[derive(Debug, Clone, PartialEq)]
 pub struct Stored {

@@ -1,5 +1,6 @@
 //! Damaged sheets: every field out of range, truncations, wrong counts, offsets, lists, orders, small areas.
 
+use crate::areas::DRAWN;
 use crate::fields::{one_field, put};
 use crate::random::Random;
 use crate::{Areas, Point, Sheet};
@@ -151,12 +152,15 @@ fn counts(r: &mut Random, s: &mut Sheet) {
 /// An area that is too small, or just large enough.
 fn area(r: &mut Random, s: &Sheet, areas: &mut Areas) {
     let least = Areas::least(s.points.len(), s.nodes, 1);
-    let which = r.below(13);
-    areas.0[which] = match r.below(4) {
-        0 => least.0[which],
-        1 => 0,
-        _ => least.0[which].saturating_sub(1 + r.below(2)),
+    let which = r.of(&DRAWN);
+    let short = match r.below(4) {
+        0 => 0,
+        1 => usize::MAX,
+        _ => 1 + r.below(2),
     };
+    if let Some(i) = which {
+        areas.0[i] = least.0[i].saturating_sub(short);
+    }
 }
 
 /// Damages a sheet and its areas in one or several ways. The result need not be refused.

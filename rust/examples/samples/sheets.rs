@@ -39,8 +39,8 @@ pub fn large() -> Vec<u8> {
     built(&chain(1_001))
 }
 
-/// What the list program prints. It takes 48 KiB, and lends node areas of 64 entries, route areas of 65, a heap of 128,
-/// and a coverage area and answer lists of 256.
+/// What the list program prints. It takes 48 KiB, and lends node areas of 64 entries, a heap of 128, and a coverage area
+/// and answer lists of 256.
 pub fn expected(sheet: &[u8]) -> String {
     if sheet.len() > 48 * 1024 {
         return "large\n".to_string();
@@ -56,7 +56,7 @@ pub fn expected(sheet: &[u8]) -> String {
 
 fn has_room(sheet: &[u8]) -> bool {
     let count = |at: usize| u32::from_le_bytes([0, 1, 2, 3].map(|i| sheet[at + i])) as usize;
-    Sizes::of(count(4), count(8)).is_some_and(|s| s.node <= 64 && s.route <= 65 && s.list <= 256)
+    Sizes::of(count(4), count(8)).is_some_and(|s| s.node <= 64 && s.list <= 256)
 }
 
 fn built(sheet: &SheetBuilder) -> Vec<u8> {

@@ -12,7 +12,7 @@ pub fn all(files: &[Vec<u8>]) -> impl Iterator<Item = Case<'_>> {
         let count = Case { file, at: 0 }.u32(0);
         (0..count).map(move |i| Case {
             file,
-            at: 4 + 56 * i,
+            at: 4 + 52 * i,
         })
     })
 }
@@ -39,7 +39,7 @@ impl Case<'_> {
 
     /// The least of the heap's four parts.
     pub fn heap(&self) -> usize {
-        (5..9)
+        (3..7)
             .map(|i| self.u16(self.at + 28 + 2 * i))
             .min()
             .unwrap()

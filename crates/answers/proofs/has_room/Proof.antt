@@ -1,5 +1,5 @@
 use Rattle.answers.specs.Room.{lent-of}
-use Rattle.answers.proofs.Refusal.{most-fits, six-tests}
+use Rattle.answers.proofs.Refusal.{most-fits, five-tests}
 use native.Mathlib.Omega.{arith}
 use borrow.Author.Needs.{needs}
 use Rattle.answers.proofs.has_room.Statement.{statement}
@@ -29,11 +29,8 @@ fits-requires-4 c κs = search needs
 fits-requires-5 : tie.Need-fits-requires-5
 fits-requires-5 c κs = search needs
 
-fits-requires-6 : tie.Need-fits-requires-6
-fits-requires-6 c κs = search needs
-
 returns : tie.Need-returns
-returns c = λ l. six-tests _ _ _ _ (lent-of (c .before .before .before .before .before .before .before .before .args .a) l) _ _ _ _ _ _ (c .before .before .before .before .before .fits2 .ensures) (c .before .before .before .before .fits3 .ensures) (c .before .before .before .fits4 .ensures) (c .before .before .fits5 .ensures) (c .before .fits6 .ensures) (c .fits7 .ensures)
+returns c = λ l. five-tests _ _ _ _ (lent-of (c .before .before .before .before .before .before .before .args .a) l) _ _ _ _ _ (c .before .before .before .before .fits2 .ensures) (c .before .before .before .fits3 .ensures) (c .before .before .fits4 .ensures) (c .before .fits5 .ensures) (c .fits6 .ensures)
 
 pub has-room-spec : {M : Type 1} → statement M
 has-room-spec =
@@ -47,5 +44,4 @@ has-room-spec =
     fits-requires-3
     fits-requires-4
     fits-requires-5
-    fits-requires-6
     returns)

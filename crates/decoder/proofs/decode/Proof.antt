@@ -20,9 +20,6 @@ least-requires-2 c κs = search needs
 least-requires-3 : tie.Need-least-requires-3
 least-requires-3 c κs = search needs
 
-least-requires-4 : tie.Need-least-requires-4
-least-requires-4 c κs = search needs
-
 open-sheet-requires : tie.Need-open-sheet-requires
 open-sheet-requires c κs = search needs
 
@@ -33,13 +30,13 @@ enum-known-opened-2 : tie.Need-enum-known-opened-2
 enum-known-opened-2 c = search needs
 
 decode-sheet-requires : tie.Need-decode-sheet-requires
-decode-sheet-requires c κs = let a = c .before .before .before .before .before .before .before .before .before .before .before .before .before .before .before .before .before .before .before .before .before .before .before .before .before .before .before .before .before .args in
-    let z : Sizes = record { node = c .before .before .before .before .before .before .before .before .before .before .before .before .before .before .before .before .before .least .result; route = c .before .before .before .before .before .before .before .before .before .before .before .before .before .before .before .before .least2 .result; heap = c .before .before .before .before .before .before .before .before .before .before .before .before .before .before .before .least3 .result; coverage = c .before .before .before .before .before .before .before .before .before .before .before .before .before .before .least4 .result; ids = length (a .ids .now); lengths = length (a .lengths .now) } in
-    let w = call-formed (a .sheet .now) z (c .before .before .before .before .before .before .before .before .before .before .before .before .before .open-sheet .result) (c .before .before .before .before .before .before .before .before .before .before .before .before .before .open-sheet .ensures) (a .ids .now) (a .lengths .now) refl refl _ (c .before .before .before .before .before .before .before .before .before .before .before .opened2 .given .1) in
-    let room = call-room (a .sheet .now) z (c .before .before .before .before .before .before .before .before .before .before .before .before .before .open-sheet .result) (c .before .before .before .before .before .before .before .before .before .before .before .before .before .open-sheet .ensures) (a .ids .now) (a .lengths .now) refl refl _ (c .before .before .before .before .before .before .before .before .before .before .before .opened2 .given .1) in
-    let nodes = c .before .before .before .before .before .before .before .before .before .before .before .before .before .before .before .before .before .least .ensures in
-    let slots = c .before .before .before .before .before .before .before .before .before .before .before .before .before .before .before .least3 .ensures in
-    let sized = areas-sized (c .before .before .before .before .before .before .before .before .before .before .before .opened2 .given .0 .0 .n) (c .before .before .before .before .before .before .before .before .before .before .before .before .before .before .before .least3 .result) (a .labels .now) (a .came-from .now) (a .entries .now) (a .links .now) record {
+decode-sheet-requires c κs = let a = c .before .before .before .before .before .before .before .before .before .before .before .before .before .before .before .before .before .before .before .before .before .before .before .before .args in
+    let z : Sizes = record { node = c .before .before .before .before .before .before .before .before .before .before .before .before .before .before .least .result; heap = c .before .before .before .before .before .before .before .before .before .before .before .before .before .least2 .result; coverage = c .before .before .before .before .before .before .before .before .before .before .before .before .least3 .result; ids = length (a .ids .now); lengths = length (a .lengths .now) } in
+    let w = call-formed (a .sheet .now) z (c .before .before .before .before .before .before .before .before .before .before .before .open-sheet .result) (c .before .before .before .before .before .before .before .before .before .before .before .open-sheet .ensures) (a .ids .now) (a .lengths .now) refl refl _ (c .before .before .before .before .before .before .before .before .before .opened2 .given .1) in
+    let room = call-room (a .sheet .now) z (c .before .before .before .before .before .before .before .before .before .before .before .open-sheet .result) (c .before .before .before .before .before .before .before .before .before .before .before .open-sheet .ensures) (a .ids .now) (a .lengths .now) refl refl _ (c .before .before .before .before .before .before .before .before .before .opened2 .given .1) in
+    let nodes = c .before .before .before .before .before .before .before .before .before .before .before .before .before .before .least .ensures in
+    let slots = c .before .before .before .before .before .before .before .before .before .before .before .before .before .least2 .ensures in
+    let sized = areas-sized (c .before .before .before .before .before .before .before .before .before .opened2 .given .0 .0 .n) (c .before .before .before .before .before .before .before .before .before .before .before .before .before .least2 .result) (a .labels .now) (a .came-from .now) (a .entries .now) (a .links .now) record {
       labels = omega (arith, room .node, nodes);
       came = omega (arith, room .node, nodes);
       entries = omega (arith, slots);
@@ -47,60 +44,52 @@ decode-sheet-requires c κs = let a = c .before .before .before .before .before 
     } in (
       w,
       (
-        (omega (arith, room .coverage, c .before .before .before .before .before .before .before .before .before .before .before .before .before .before .least4 .ensures), omega (arith, room .coverage, c .before .before .before .before .before .before .before .before .before .before .before .before .before .before .least4 .ensures), room .ids, room .lengths),
+        (omega (arith, room .coverage, c .before .before .before .before .before .before .before .before .before .before .before .before .least3 .ensures), omega (arith, room .coverage, c .before .before .before .before .before .before .before .before .before .before .before .before .least3 .ensures), room .ids, room .lengths),
         (
           room .heap,
-          omega (arith, room .route, c .before .before .before .before .before .before .before .before .before .before .before .before .before .before .before .before .least2 .ensures),
-          omega (arith, room .route, c .before .before .before .before .before .before .before .before .before .before .before .before .before .before .before .before .least2 .ensures),
           sized,
         ),
       ),
     )
 
 returns : tie.Need-returns
-returns c = let a = c .before .before .before .before .before .before .before .before .before .before .before .before .before .before .before .before .before .before .before .args in
-    let z : Sizes = record { node = c .before .before .before .before .before .before .before .least .result; route = c .before .before .before .before .before .before .least2 .result; heap = c .before .before .before .before .before .least3 .result; coverage = c .before .before .before .before .least4 .result; ids = length (a .ids .now); lengths = length (a .lengths .now) } in
-    let x : Slices = record { labels = length (a .labels .now); came-from = length (a .came-from .now); route = length (a .route .now); best-route = length (a .best-route .now); entries = length (a .entries .now); links = length (a .links .now); covered = length (a .covered .now); coverage = length (a .coverage .now); lists = lists (a .ids .now) (a .lengths .now) } in
+returns c = let a = c .before .before .before .before .before .before .before .before .before .before .before .before .before .before .before .before .args in
+    let z : Sizes = record { node = c .before .before .before .before .before .before .least .result; heap = c .before .before .before .before .before .least2 .result; coverage = c .before .before .before .before .least3 .result; ids = length (a .ids .now); lengths = length (a .lengths .now) } in
+    let x : Slices = record { labels = length (a .labels .now); came-from = length (a .came-from .now); entries = length (a .entries .now); links = length (a .links .now); covered = length (a .covered .now); coverage = length (a .coverage .now); lists = lists (a .ids .now) (a .lengths .now) } in
     call-refused (a .sheet .now) z (c .before .before .before .open-sheet .result) (c .before .before .before .open-sheet .ensures) (a .ids .now) (a .lengths .now) refl refl _ _ (c .before .opened .given .1)
-    ∙ ap (decode (a .sheet .now)) (lent-are z x (c .before .before .before .before .before .before .before .least .ensures) (c .before .before .before .before .before .before .least2 .ensures) (c .before .before .before .before .before .least3 .ensures) (c .before .before .before .before .least4 .ensures))
+    ∙ ap (decode (a .sheet .now)) (lent-are z x (c .before .before .before .before .before .before .least .ensures) (c .before .before .before .before .before .least2 .ensures) (c .before .before .before .before .least3 .ensures))
 
 same-length : tie.Need-same-length
-same-length c = c .before .before .before .before .before .before .before .before .before .before .before .before .before .before .before .before .before .before .before .before .decode-sheet .kept .1 .1 .1 .0
+same-length c = c .before .before .before .before .before .before .before .before .before .before .before .before .before .before .before .before .decode-sheet .kept .1 .1 .1 .0
 
 same-length-2 : tie.Need-same-length-2
-same-length-2 c = c .before .before .before .before .before .before .before .before .before .before .before .before .before .before .before .before .before .before .before .before .decode-sheet .kept .1 .1 .1 .1 .0
+same-length-2 c = c .before .before .before .before .before .before .before .before .before .before .before .before .before .before .before .before .decode-sheet .kept .1 .1 .1 .1 .0
 
 same-length-3 : tie.Need-same-length-3
-same-length-3 c = c .before .before .before .before .before .before .before .before .before .before .before .before .before .before .before .before .before .before .before .before .decode-sheet .kept .1 .1 .1 .1 .1 .0
+same-length-3 c = c .before .before .before .before .before .before .before .before .before .before .before .before .before .before .before .before .decode-sheet .kept .1 .1 .1 .1 .1 .0
 
 same-length-4 : tie.Need-same-length-4
-same-length-4 c = c .before .before .before .before .before .before .before .before .before .before .before .before .before .before .before .before .before .before .before .before .decode-sheet .kept .1 .1 .1 .1 .1 .1 .0
+same-length-4 c = c .before .before .before .before .before .before .before .before .before .before .before .before .before .before .before .before .decode-sheet .kept .1 .1 .1 .1 .1 .1 .0
 
 same-length-5 : tie.Need-same-length-5
-same-length-5 c = c .before .before .before .before .before .before .before .before .before .before .before .before .before .before .before .before .before .before .before .before .decode-sheet .kept .1 .1 .1 .1 .1 .1 .1 .0
+same-length-5 c = c .before .before .before .before .before .before .before .before .before .before .before .before .before .before .before .before .decode-sheet .kept .1 .1 .1 .1 .1 .1 .1 .0
 
 same-length-6 : tie.Need-same-length-6
-same-length-6 c = c .before .before .before .before .before .before .before .before .before .before .before .before .before .before .before .before .before .before .before .before .decode-sheet .kept .1 .1 .1 .1 .1 .1 .1 .1 .0
+same-length-6 c = c .before .before .before .before .before .before .before .before .before .before .before .before .before .before .before .before .decode-sheet .kept .1 .1 .1 .1 .1 .1 .1 .1 .0
 
 same-length-7 : tie.Need-same-length-7
-same-length-7 c = c .before .before .before .before .before .before .before .before .before .before .before .before .before .before .before .before .before .before .before .before .decode-sheet .kept .1 .1 .1 .1 .1 .1 .1 .1 .1 .0
+same-length-7 c = c .before .before .before .before .before .before .before .before .before .before .before .before .before .before .before .before .decode-sheet .kept .1 .1 .1 .1 .1 .1 .1 .1 .1 .0
 
 same-length-8 : tie.Need-same-length-8
-same-length-8 c = c .before .before .before .before .before .before .before .before .before .before .before .before .before .before .before .before .before .before .before .before .decode-sheet .kept .1 .1 .1 .1 .1 .1 .1 .1 .1 .1 .0
-
-same-length-9 : tie.Need-same-length-9
-same-length-9 c = c .before .before .before .before .before .before .before .before .before .before .before .before .before .before .before .before .before .before .before .before .decode-sheet .kept .1 .1 .1 .1 .1 .1 .1 .1 .1 .1 .1 .0
-
-same-length-10 : tie.Need-same-length-10
-same-length-10 c = c .before .before .before .before .before .before .before .before .before .before .before .before .before .before .before .before .before .before .before .before .decode-sheet .kept .1 .1 .1 .1 .1 .1 .1 .1 .1 .1 .1 .1 .0
+same-length-8 c = c .before .before .before .before .before .before .before .before .before .before .before .before .before .before .before .before .decode-sheet .kept .1 .1 .1 .1 .1 .1 .1 .1 .1 .1 .0
 
 returns-2 : tie.Need-returns-2
-returns-2 c = let a = c .before .before .before .before .before .before .before .before .before .before .before .before .before .before .before .before .before .before .before .before .before .before .before .before .before .before .before .before .before .before .before .before .before .before .before .before .before .before .before .before .before .before .before .before .before .before .before .before .before .before .args in
-    let z : Sizes = record { node = c .before .before .before .before .before .before .before .before .before .before .before .before .before .before .before .before .before .before .before .before .before .before .before .before .before .before .before .before .before .before .before .before .before .before .before .before .before .before .least .result; route = c .before .before .before .before .before .before .before .before .before .before .before .before .before .before .before .before .before .before .before .before .before .before .before .before .before .before .before .before .before .before .before .before .before .before .before .before .before .least2 .result; heap = c .before .before .before .before .before .before .before .before .before .before .before .before .before .before .before .before .before .before .before .before .before .before .before .before .before .before .before .before .before .before .before .before .before .before .before .before .least3 .result; coverage = c .before .before .before .before .before .before .before .before .before .before .before .before .before .before .before .before .before .before .before .before .before .before .before .before .before .before .before .before .before .before .before .before .before .before .before .least4 .result; ids = length (a .ids .now); lengths = length (a .lengths .now) } in
-    let x : Slices = record { labels = length (a .labels .now); came-from = length (a .came-from .now); route = length (a .route .now); best-route = length (a .best-route .now); entries = length (a .entries .now); links = length (a .links .now); covered = length (a .covered .now); coverage = length (a .coverage .now); lists = lists (a .ids .now) (a .lengths .now) } in
-    c .before .before .before .before .before .before .before .before .before .before .before .before .before .before .before .before .before .before .before .before .decode-sheet .ensures
-    ∙ call-sheet (a .sheet .now) z (c .before .before .before .before .before .before .before .before .before .before .before .before .before .before .before .before .before .before .before .before .before .before .before .before .before .before .before .before .before .before .before .before .before .before .open-sheet .result) (c .before .before .before .before .before .before .before .before .before .before .before .before .before .before .before .before .before .before .before .before .before .before .before .before .before .before .before .before .before .before .before .before .before .before .open-sheet .ensures) (a .ids .now) (a .lengths .now) refl refl _ (c .before .before .before .before .before .before .before .before .before .before .before .before .before .before .before .before .before .before .before .before .before .before .before .before .before .before .before .before .before .before .before .before .opened2 .given .1)
-    ∙ ap (decode (a .sheet .now)) (lent-are z x (c .before .before .before .before .before .before .before .before .before .before .before .before .before .before .before .before .before .before .before .before .before .before .before .before .before .before .before .before .before .before .before .before .before .before .before .before .before .before .least .ensures) (c .before .before .before .before .before .before .before .before .before .before .before .before .before .before .before .before .before .before .before .before .before .before .before .before .before .before .before .before .before .before .before .before .before .before .before .before .before .least2 .ensures) (c .before .before .before .before .before .before .before .before .before .before .before .before .before .before .before .before .before .before .before .before .before .before .before .before .before .before .before .before .before .before .before .before .before .before .before .before .least3 .ensures) (c .before .before .before .before .before .before .before .before .before .before .before .before .before .before .before .before .before .before .before .before .before .before .before .before .before .before .before .before .before .before .before .before .before .before .before .least4 .ensures))
+returns-2 c = let a = c .before .before .before .before .before .before .before .before .before .before .before .before .before .before .before .before .before .before .before .before .before .before .before .before .before .before .before .before .before .before .before .before .before .before .before .before .before .before .before .before .before .args in
+    let z : Sizes = record { node = c .before .before .before .before .before .before .before .before .before .before .before .before .before .before .before .before .before .before .before .before .before .before .before .before .before .before .before .before .before .before .before .least .result; heap = c .before .before .before .before .before .before .before .before .before .before .before .before .before .before .before .before .before .before .before .before .before .before .before .before .before .before .before .before .before .before .least2 .result; coverage = c .before .before .before .before .before .before .before .before .before .before .before .before .before .before .before .before .before .before .before .before .before .before .before .before .before .before .before .before .before .least3 .result; ids = length (a .ids .now); lengths = length (a .lengths .now) } in
+    let x : Slices = record { labels = length (a .labels .now); came-from = length (a .came-from .now); entries = length (a .entries .now); links = length (a .links .now); covered = length (a .covered .now); coverage = length (a .coverage .now); lists = lists (a .ids .now) (a .lengths .now) } in
+    c .before .before .before .before .before .before .before .before .before .before .before .before .before .before .before .before .decode-sheet .ensures
+    ∙ call-sheet (a .sheet .now) z (c .before .before .before .before .before .before .before .before .before .before .before .before .before .before .before .before .before .before .before .before .before .before .before .before .before .before .before .before .open-sheet .result) (c .before .before .before .before .before .before .before .before .before .before .before .before .before .before .before .before .before .before .before .before .before .before .before .before .before .before .before .before .open-sheet .ensures) (a .ids .now) (a .lengths .now) refl refl _ (c .before .before .before .before .before .before .before .before .before .before .before .before .before .before .before .before .before .before .before .before .before .before .before .before .before .before .opened2 .given .1)
+    ∙ ap (decode (a .sheet .now)) (lent-are z x (c .before .before .before .before .before .before .before .before .before .before .before .before .before .before .before .before .before .before .before .before .before .before .before .before .before .before .before .before .before .before .before .least .ensures) (c .before .before .before .before .before .before .before .before .before .before .before .before .before .before .before .before .before .before .before .before .before .before .before .before .before .before .before .before .before .before .least2 .ensures) (c .before .before .before .before .before .before .before .before .before .before .before .before .before .before .before .before .before .before .before .before .before .before .before .before .before .before .before .before .before .least3 .ensures))
 
 pub decode-spec : {M : Type 1} → statement M
 decode-spec =
@@ -109,7 +98,6 @@ decode-spec =
     least-requires
     least-requires-2
     least-requires-3
-    least-requires-4
     open-sheet-requires
     enum-known-opened
     enum-known-opened-2
@@ -123,6 +111,4 @@ decode-spec =
     same-length-6
     same-length-7
     same-length-8
-    same-length-9
-    same-length-10
     returns-2)

@@ -10,13 +10,13 @@ settings-requires : tie.Need-settings-requires
 settings-requires c κs = search needs
 
 decode-legs-requires : tie.Need-decode-legs-requires
-decode-legs-requires c κs = let p = c .before .before .before .before .before .before .before .before .before .before .before .before .before .before .before .before .before .before .before .before .before .pre in
+decode-legs-requires c κs = let p = c .before .before .before .before .before .before .before .before .before .before .before .before .before .before .before .before .before .pre in
     (p .0, ((p .1 .0 .0, p .1 .0 .1, p .1 .0 .2), p .1 .1))
 
 answer-requires : tie.Need-answer-requires
-answer-requires c κs = let p = c .before .before .before .before .before .before .before .before .before .before .before .before .before .before .before .before .before .before .before .before .before .before .before .before .before .before .before .before .before .before .before .before .before .before .before .before .before .before .before .before .before .before .before .before .pre in
-    let k = c .before .before .before .before .before .before .before .before .before .before .before .before .before .before .before .before .before .before .before .before .before .before .decode-legs .kept .1 .1 .1 .1 .1 .1 .1 .1 .1 in
-    ((p .0, c .before .before .before .before .before .before .before .before .before .before .before .before .before .before .before .before .before .before .before .before .before .before .before .before .before .before .before .before .before .before .before .before .settings .ensures, (c .before .before .before .before .before .before .before .before .before .before .before .before .before .before .before .before .before .before .before .before .before .before .before .before .before .before .before .before .before .before .before .before .before .before .before .before .before .before .before .before .before .before .before .before .args .slots, c .before .before .before .before .before .before .before .before .before .before .before .before .before .before .before .before .before .before .before .before .before .before .decode-legs .ensures)), (omega (arith, p .1 .0 .0, k .0), omega (arith, p .1 .0 .1, k .1 .0), omega (arith, p .1 .0 .2, k .1 .1 .0), p .1 .0 .3))
+answer-requires c κs = let p = c .before .before .before .before .before .before .before .before .before .before .before .before .before .before .before .before .before .before .before .before .before .before .before .before .before .before .before .before .before .before .before .before .before .before .before .before .pre in
+    let k = c .before .before .before .before .before .before .before .before .before .before .before .before .before .before .before .before .before .before .decode-legs .kept .1 .1 .1 .1 .1 .1 .1 in
+    ((p .0, c .before .before .before .before .before .before .before .before .before .before .before .before .before .before .before .before .before .before .before .before .before .before .before .before .before .before .settings .ensures, (c .before .before .before .before .before .before .before .before .before .before .before .before .before .before .before .before .before .before .before .before .before .before .before .before .before .before .before .before .before .before .before .before .before .before .before .before .args .slots, c .before .before .before .before .before .before .before .before .before .before .before .before .before .before .before .before .before .before .decode-legs .ensures)), (omega (arith, p .1 .0 .0, k .0), omega (arith, p .1 .0 .1, k .1 .0), omega (arith, p .1 .0 .2, k .1 .1 .0), p .1 .0 .3))
 
 same-length : tie.Need-same-length
 same-length c = search needs
@@ -42,16 +42,10 @@ same-length-7 c = search needs
 same-length-8 : tie.Need-same-length-8
 same-length-8 c = search needs
 
-same-length-9 : tie.Need-same-length-9
-same-length-9 c = search needs
-
-same-length-10 : tie.Need-same-length-10
-same-length-10 c = search needs
-
 returns : tie.Need-returns
-returns c = let a = c .before .before .before .before .before .before .before .before .before .before .before .before .before .before .before .before .before .before .before .before .before .before .before .before .before .before .before .before .before .before .before .before .before .before .before .before .before .before .before .before .before .before .before .before .before .before .before .before .before .before .before .args in
-    c .before .before .before .before .before .before .answer .ensures (a .slots) (c .before .before .before .before .before .before .before .before .before .before .before .before .before .before .before .before .before .before .before .before .before .before .before .before .before .before .before .before .before .decode-legs .ensures)
-    ∙ answered-as (sheet-of (a .s .now) (a .c)) _ (a .ids .now) _ (a .lengths .now) (c .before .before .before .before .before .before .before .before .before .before .before .before .before .before .before .before .before .before .before .before .before .before .before .before .before .before .before .before .before .decode-legs .kept .1 .1 .1 .1 .1 .1 .1 .1 .1 .1 .1 .0)
+returns c = let a = c .before .before .before .before .before .before .before .before .before .before .before .before .before .before .before .before .before .before .before .before .before .before .before .before .before .before .before .before .before .before .before .before .before .before .before .before .before .before .before .before .before .before .before .args in
+    c .before .before .before .before .before .before .answer .ensures (a .slots) (c .before .before .before .before .before .before .before .before .before .before .before .before .before .before .before .before .before .before .before .before .before .before .before .before .before .decode-legs .ensures)
+    ∙ answered-as (sheet-of (a .s .now) (a .c)) _ (a .ids .now) _ (a .lengths .now) (c .before .before .before .before .before .before .before .before .before .before .before .before .before .before .before .before .before .before .before .before .before .before .before .before .before .decode-legs .kept .1 .1 .1 .1 .1 .1 .1 .1 .1 .0)
 
 pub decode-sheet-spec : {M : Type 1} → statement M
 decode-sheet-spec =
@@ -68,6 +62,4 @@ decode-sheet-spec =
     same-length-6
     same-length-7
     same-length-8
-    same-length-9
-    same-length-10
     returns)

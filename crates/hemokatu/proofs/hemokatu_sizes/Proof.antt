@@ -28,4 +28,12 @@ unfolding sizes-of
 returns-3 c = rw (lt-leb _ _ (c .if1 .left))
 
 pub hemokatu-sizes-spec : {M : Type 1} → statement M
-hemokatu-sizes-spec = tie.close (tie.spec add-more add-most mul-most returns returns-2 returns-3)
+hemokatu-sizes-spec =
+    tie.close
+    (tie.spec
+    add-more
+    add-most
+    mul-most
+    returns
+    returns-2
+    returns-3)

@@ -27,12 +27,6 @@ slice-aggregate-decode-7 c = search needs
 slice-aggregate-decode-8 : tie.Need-slice-aggregate-decode-8
 slice-aggregate-decode-8 c = search needs
 
-slice-aggregate-decode-9 : tie.Need-slice-aggregate-decode-9
-slice-aggregate-decode-9 c = search needs
-
-slice-aggregate-decode-10 : tie.Need-slice-aggregate-decode-10
-slice-aggregate-decode-10 c = search needs
-
 decode-requires : tie.Need-decode-requires
 decode-requires c κs = search needs
 
@@ -49,7 +43,7 @@ same-length : tie.Need-same-length
 same-length c = search needs
 
 returns : tie.Need-returns
-returns c = listed-decoded (c .before .before .before .before .before .before .before .before .before .before .before .before .before .before .before .before .before .before .before .before .before .before .before .before .before .before .before .before .before .args .sheet .now) (c .before .before .before .before .before .before .before .before .before .before .before .before .before .before .before .before .decode .result) _ _ (c .before .before .before .before .before .before .before .before .before .before .before .before .before .before .before .before .before .before .before .before .before .before .before .before .before .before .before .before .before .args .out .now) _ _ (c .before .before .before .before .before .before .before .before .before .before .before .before .before .before .before .before .decode .ensures) (c .before .before .before .before .before .before .before .before .before .before .before .before .before .before .before .before .decode .kept .1 .1 .1 .1 .1 .1 .1 .1 .1 .0) (c .before .before .write-text .ensures .0) (c .before .before .write-text .ensures .1) (c .before .before .before .before .before .before .before .before .before .before .before .before .before .before .before .before .before .before .before .before .before .before .before .before .before .before .before .before .before .pre)
+returns c = listed-decoded (c .before .before .before .before .before .before .before .before .before .before .before .before .before .before .before .before .before .before .before .before .before .before .before .before .before .args .sheet .now) (c .before .before .before .before .before .before .before .before .before .before .before .before .before .before .decode .result) _ _ (c .before .before .before .before .before .before .before .before .before .before .before .before .before .before .before .before .before .before .before .before .before .before .before .before .before .args .out .now) _ _ (c .before .before .before .before .before .before .before .before .before .before .before .before .before .before .decode .ensures) (c .before .before .before .before .before .before .before .before .before .before .before .before .before .before .decode .kept .1 .1 .1 .1 .1 .1 .1 .0) (c .before .before .write-text .ensures .0) (c .before .before .write-text .ensures .1) (c .before .before .before .before .before .before .before .before .before .before .before .before .before .before .before .before .before .before .before .before .before .before .before .before .before .pre)
 
 pub decode-text-spec : {M : Type 1} → statement M
 decode-text-spec =
@@ -63,8 +57,6 @@ decode-text-spec =
     slice-aggregate-decode-6
     slice-aggregate-decode-7
     slice-aggregate-decode-8
-    slice-aggregate-decode-9
-    slice-aggregate-decode-10
     decode-requires
     slice-aggregate-write-text
     slice-aggregate-write-text-2

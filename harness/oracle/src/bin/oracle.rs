@@ -1,5 +1,5 @@
 //! Reads a sheet from standard input and prints what `roadlist` must print.
-//! Arguments: none for the areas of `roadlist`; five sizes (node areas, route areas, heap, coverage area, answer lists); or all thirteen.
+//! Arguments: none for the areas of `roadlist`; four sizes (node areas, heap, coverage area, answer lists); or all eleven.
 
 use sheets::Areas;
 use std::io::Read;
@@ -20,8 +20,8 @@ fn main() {
             return;
         }
         [] => Areas::of_roadlist(),
-        [nodes, routes, heap, coverage, lists] => Areas::of(nodes, routes, heap, coverage, lists),
-        _ => Areas(sizes.try_into().expect("five sizes or thirteen")),
+        [nodes, heap, coverage, lists] => Areas::of(nodes, heap, coverage, lists),
+        _ => Areas(sizes.try_into().expect("four sizes or eleven")),
     };
     print!("{}", oracle::call(&sheet, &areas).text());
 }

@@ -9,13 +9,13 @@ use Rattle.model.specs.Lists.{sort}
 use Rattle.model.specs.Candidates.{Candidate}
 use Rattle.candidates.proofs.Held.{held-at}
 use Rattle.candidates.specs.Found.{no-candidate, at-road, item-at, held}
-use Rattle.legs.proofs.Going.{Good, good-start, nearer, good-enough, good-turn, good-end, Kept, kept-start}
+use Rattle.legs.proofs.Going.{Good, good-start, nearer, good-enough, good-turn, good-end}
 use Rattle.legs.specs.Found.{middle-search-at}
 use Rattle.search.proofs.Growth.{sized-on, sizes-on}
 use Rattle.search.proofs.Halves.{both-size, areas-same}
-use Rattle.search.specs.Areas.{columns}
+use Rattle.search.specs.Areas.{columns, SameSizes}
 use Rattle.model.specs.Legs.{pair, best-score}
-use Rattle.model.specs.Sheet.{sheet-of, road-at}
+use Rattle.model.specs.Sheet.{sheet-of}
 use borrow.Author.Needs.{needs}
 use native.Mathlib.Omega.{arith}
 use mathlib.Core.Path.{_≡_, ap, _∙_}
@@ -28,25 +28,25 @@ use Rattle.legs.proofs.tries.try_pairs.Statement.{statement}
 use Rattle.legs.proofs.tries.try_pairs.Tie as tie
 
 abbrev Inv-fill : tie.InvT-fill
-Inv-fill s c b slots labels came-from route best-route entries links starts ends count by-start₀ by-end₀ k₀ by-start by-end k =
+Inv-fill s c b slots labels came-from entries links starts ends count by-start₀ by-end₀ k₀ by-start by-end k =
     (k ≤ 10) × Filled starts by-start k × Filled ends by-end k
 
 abbrev μ-fill : tie.MeasureT-fill
-μ-fill s c b slots labels came-from route best-route entries links starts ends count by-start₀ by-end₀ k₀ by-start by-end k =
+μ-fill s c b slots labels came-from entries links starts ends count by-start₀ by-end₀ k₀ by-start by-end k =
     10 - k
 
 abbrev Inv-loop : tie.InvT-loop
-Inv-loop s c b slots labels₀ came-from₀ route₀ best-route₀ entries₀ links₀ starts ends count by-start by-end k heads₀ st₀ t₀ labels came-from route best-route entries links heads st t =
-    Kept (columns (c .n) slots labels₀ came-from₀ entries₀ links₀ 0 0) (columns (c .n) slots labels came-from entries links 0 0) route₀ route best-route₀ best-route
-    × Good (road-at (sheet-of s c)) b (middle-search-at (sheet-of s c) slots b) (in-order (sheet-of s c) starts ends) (c .n) (c .e) (starts .count * ends .count) st best-route t
+Inv-loop s c b slots labels₀ came-from₀ entries₀ links₀ starts ends count by-start by-end k heads₀ st₀ t₀ labels came-from entries links heads st t =
+    SameSizes (columns (c .n) slots labels₀ came-from₀ entries₀ links₀ 0 0) (columns (c .n) slots labels came-from entries links 0 0)
+    × Good b (middle-search-at (sheet-of s c) slots b) (in-order (sheet-of s c) starts ends) (c .n) (starts .count * ends .count) st t
     × Heads (sheet-of s c) starts ends (starts .count * ends .count) t heads
 
 abbrev μ-loop : tie.MeasureT-loop
-μ-loop s c b slots labels₀ came-from₀ route₀ best-route₀ entries₀ links₀ starts ends count by-start by-end k heads₀ st₀ t₀ labels came-from route best-route entries links heads st t =
+μ-loop s c b slots labels₀ came-from₀ entries₀ links₀ starts ends count by-start by-end k heads₀ st₀ t₀ labels came-from entries links heads st t =
     starts .count * ends .count - t
 
 mul-count : tie.Need-mul-count Inv-fill μ-fill Inv-loop μ-loop
-mul-count c = let p = c .before .before .before .before .before .before .before .pre .0 in let a = c .before .before .before .before .before .before .before .args in let t = sheet-of (a .s .now) (a .c) in let h = few t (a .c) (a .t4) (a .t5) (p .2) (p .3) in omega arith
+mul-count c = let p = c .before .before .before .before .before .pre .0 in let a = c .before .before .before .before .before .args in let t = sheet-of (a .s .now) (a .c) in let h = few t (a .c) (a .t4) (a .t5) (p .2) (p .3) in omega arith
 
 fill-holds : tie.Need-fill-holds Inv-fill μ-fill Inv-loop μ-loop
 fill-holds c = (omega arith, filled-none _ _ refl, filled-none _ _ refl)
@@ -82,14 +82,14 @@ fill-less : tie.Need-fill-less Inv-fill μ-fill Inv-loop μ-loop
 fill-less c = omega (arith, c .before .before .fill-test .taken)
 
 fill-again : tie.Need-fill-again Inv-fill μ-fill Inv-loop μ-loop
-fill-again c = let a = c .before .before .before .before .before .before .before .before .before .before .before .args in let f = c .before .before .before .fill in (omega (arith, c .before .before .fill-test .taken), filled-more (a .t4) (f .by-start) (f .k) (c .before .before .fill-test .taken) (f .inv .1), filled-more (a .t5) (f .by-end) (f .k) (c .before .before .fill-test .taken) (f .inv .2))
+fill-again c = let a = c .before .before .before .before .before .before .before .before .before .args in let f = c .before .before .before .fill in (omega (arith, c .before .before .fill-test .taken), filled-more (a .t4) (f .by-start) (f .k) (c .before .before .fill-test .taken) (f .inv .1), filled-more (a .t5) (f .by-end) (f .k) (c .before .before .fill-test .taken) (f .inv .2))
 
 no-best-requires : tie.Need-no-best-requires Inv-fill μ-fill Inv-loop μ-loop
 no-best-requires c κs = search needs
 
 loop-holds : tie.Need-loop-holds Inv-fill μ-fill Inv-loop μ-loop
-loop-holds c = let p = c .before .before .before .before .before .before .before .before .before .before .pre .0 in let a = c .before .before .before .before .before .before .before .before .before .before .args in let t = sheet-of (a .s .now) (a .c) in
-    (kept-start _ _ _, good-start _ _ _ _ _ _ _ (c .no-best .result) _ (c .no-best .ensures), heads-start t (a .c) (a .t4) (a .t5) (p .2) (p .3))
+loop-holds c = let p = c .before .before .before .before .before .before .before .before .pre .0 in let a = c .before .before .before .before .before .before .before .before .args in let t = sheet-of (a .s .now) (a .c) in
+    (record { real = refl; penalised = refl; came = refl; f-score = refl; g-score = refl; node = refl; order = refl }, good-start _ _ _ _ _ (c .no-best .result) (c .no-best .ensures .0) (c .no-best .ensures .1), heads-start t (a .c) (a .t4) (a .t5) (p .2) (p .3))
 
 slice-aggregate-next-pair : tie.Need-slice-aggregate-next-pair Inv-fill μ-fill Inv-loop μ-loop
 slice-aggregate-next-pair c = search needs
@@ -101,44 +101,38 @@ slice-aggregate-next-pair-3 : tie.Need-slice-aggregate-next-pair-3 Inv-fill μ-f
 slice-aggregate-next-pair-3 c = search needs
 
 next-pair-requires : tie.Need-next-pair-requires Inv-fill μ-fill Inv-loop μ-loop
-next-pair-requires c κs = let p = c .before .before .before .before .before .before .before .before .before .before .before .before .before .before .before .pre .0 in let a = c .before .before .before .before .before .before .before .before .before .before .before .before .before .before .before .args in let t = sheet-of (a .s .now) (a .c) in
+next-pair-requires c κs = let p = c .before .before .before .before .before .before .before .before .before .before .before .before .before .pre .0 in let a = c .before .before .before .before .before .before .before .before .before .before .before .before .before .args in let t = sheet-of (a .s .now) (a .c) in
     (omega (arith, p .2 .few, c .before .before .before .before .before .before .before .fill .inv .1 .long), omega (arith, p .3 .few, c .before .before .before .before .before .before .before .fill .inv .2 .long), omega (arith, p .2 .few, c .before .before .before .before .loop .inv .2 .long), some-open t (a .c) (a .t4) (a .t5) (p .2) (p .3) (c .before .before .before .before .loop .t) (c .before .before .before .loop-test .taken) (c .before .before .before .before .loop .heads) (c .before .before .before .before .loop .inv .2))
 
 mul-first : tie.Need-mul-first Inv-fill μ-fill Inv-loop μ-loop
-mul-first c = omega (arith, c .before .before .before .before .before .before .before .before .before .before .before .before .before .before .before .before .before .before .pre .0 .2 .few, c .before .before .next-pair .ensures .0)
+mul-first c = omega (arith, c .before .before .before .before .before .before .before .before .before .before .before .before .before .before .before .before .pre .0 .2 .few, c .before .before .next-pair .ensures .0)
 
 element-copy-out-first : tie.Need-element-copy-out-first Inv-fill μ-fill Inv-loop μ-loop
-element-copy-out-first c = omega (arith, c .before .before .before .before .before .before .before .before .before .before .before .before .before .before .before .before .before .before .pre .0 .2 .few, c .before .before .next-pair .ensures .0)
+element-copy-out-first c = omega (arith, c .before .before .before .before .before .before .before .before .before .before .before .before .before .before .before .before .pre .0 .2 .few, c .before .before .next-pair .ensures .0)
 
 mul-last : tie.Need-mul-last Inv-fill μ-fill Inv-loop μ-loop
-mul-last c = omega (arith, c .before .before .before .before .before .before .before .before .before .before .before .before .before .before .before .before .before .before .before .pre .0 .3 .few, c .before .before .before .next-pair .ensures .1)
+mul-last c = omega (arith, c .before .before .before .before .before .before .before .before .before .before .before .before .before .before .before .before .before .pre .0 .3 .few, c .before .before .before .next-pair .ensures .1)
 
 element-copy-out-last : tie.Need-element-copy-out-last Inv-fill μ-fill Inv-loop μ-loop
-element-copy-out-last c = omega (arith, c .before .before .before .before .before .before .before .before .before .before .before .before .before .before .before .before .before .before .before .pre .0 .3 .few, c .before .before .before .next-pair .ensures .1)
+element-copy-out-last c = omega (arith, c .before .before .before .before .before .before .before .before .before .before .before .before .before .before .before .before .before .pre .0 .3 .few, c .before .before .before .next-pair .ensures .1)
 
 best-score-requires : tie.Need-best-score-requires Inv-fill μ-fill Inv-loop μ-loop
 best-score-requires c κs = search needs
 
 same-length : tie.Need-same-length Inv-fill μ-fill Inv-loop μ-loop
-same-length c = both-size (c .before .before .before .before .before .before .before .before .before .before .before .before .before .before .before .before .before .before .before .before .before .before .before .before .args .c .n) (c .before .before .before .before .before .before .before .before .before .before .before .before .before .before .before .before .before .before .before .before .before .before .before .before .args .labels .now) (c .before .before .before .before .before .before .before .before .before .before .before .before .before .loop .labels) (c .before .before .before .before .before .before .before .before .before .before .before .before .before .loop .inv .0 .sizes .real) (c .before .before .before .before .before .before .before .before .before .before .before .before .before .loop .inv .0 .sizes .penalised)
+same-length c = both-size (c .before .before .before .before .before .before .before .before .before .before .before .before .before .before .before .before .before .before .before .before .before .before .args .c .n) (c .before .before .before .before .before .before .before .before .before .before .before .before .before .before .before .before .before .before .before .before .before .before .args .labels .now) (c .before .before .before .before .before .before .before .before .before .before .before .before .before .loop .labels) (c .before .before .before .before .before .before .before .before .before .before .before .before .before .loop .inv .0 .real) (c .before .before .before .before .before .before .before .before .before .before .before .before .before .loop .inv .0 .penalised)
 
 same-length-2 : tie.Need-same-length-2 Inv-fill μ-fill Inv-loop μ-loop
-same-length-2 c = c .before .before .before .before .before .before .before .before .before .before .before .before .before .loop .inv .0 .sizes .came
+same-length-2 c = c .before .before .before .before .before .before .before .before .before .before .before .before .before .loop .inv .0 .came
 
 same-length-3 : tie.Need-same-length-3 Inv-fill μ-fill Inv-loop μ-loop
-same-length-3 c = c .before .before .before .before .before .before .before .before .before .before .before .before .before .loop .inv .0 .route
+same-length-3 c = both-size (c .before .before .before .before .before .before .before .before .before .before .before .before .before .before .before .before .before .before .before .before .before .before .args .slots) (c .before .before .before .before .before .before .before .before .before .before .before .before .before .before .before .before .before .before .before .before .before .before .args .entries .now) (c .before .before .before .before .before .before .before .before .before .before .before .before .before .loop .entries) (c .before .before .before .before .before .before .before .before .before .before .before .before .before .loop .inv .0 .f-score) (c .before .before .before .before .before .before .before .before .before .before .before .before .before .loop .inv .0 .g-score)
 
 same-length-4 : tie.Need-same-length-4 Inv-fill μ-fill Inv-loop μ-loop
-same-length-4 c = c .before .before .before .before .before .before .before .before .before .before .before .before .before .loop .inv .0 .best-route
-
-same-length-5 : tie.Need-same-length-5 Inv-fill μ-fill Inv-loop μ-loop
-same-length-5 c = both-size (c .before .before .before .before .before .before .before .before .before .before .before .before .before .before .before .before .before .before .before .before .before .before .before .before .args .slots) (c .before .before .before .before .before .before .before .before .before .before .before .before .before .before .before .before .before .before .before .before .before .before .before .before .args .entries .now) (c .before .before .before .before .before .before .before .before .before .before .before .before .before .loop .entries) (c .before .before .before .before .before .before .before .before .before .before .before .before .before .loop .inv .0 .sizes .f-score) (c .before .before .before .before .before .before .before .before .before .before .before .before .before .loop .inv .0 .sizes .g-score)
-
-same-length-6 : tie.Need-same-length-6 Inv-fill μ-fill Inv-loop μ-loop
-same-length-6 c = both-size (c .before .before .before .before .before .before .before .before .before .before .before .before .before .before .before .before .before .before .before .before .before .before .before .before .args .slots) (c .before .before .before .before .before .before .before .before .before .before .before .before .before .before .before .before .before .before .before .before .before .before .before .before .args .links .now) (c .before .before .before .before .before .before .before .before .before .before .before .before .before .loop .links) (c .before .before .before .before .before .before .before .before .before .before .before .before .before .loop .inv .0 .sizes .order) (c .before .before .before .before .before .before .before .before .before .before .before .before .before .loop .inv .0 .sizes .node)
+same-length-4 c = both-size (c .before .before .before .before .before .before .before .before .before .before .before .before .before .before .before .before .before .before .before .before .before .before .args .slots) (c .before .before .before .before .before .before .before .before .before .before .before .before .before .before .before .before .before .before .before .before .before .before .args .links .now) (c .before .before .before .before .before .before .before .before .before .before .before .before .before .loop .links) (c .before .before .before .before .before .before .before .before .before .before .before .before .before .loop .inv .0 .order) (c .before .before .before .before .before .before .before .before .before .before .before .before .before .loop .inv .0 .node)
 
 returns : tie.Need-returns Inv-fill μ-fill Inv-loop μ-loop
-returns c = let p = c .before .before .before .before .before .before .before .before .before .before .before .before .before .before .before .before .before .before .before .before .before .before .before .before .pre .0 in let a = c .before .before .before .before .before .before .before .before .before .before .before .before .before .before .before .before .before .before .before .before .before .before .before .before .args in let t = sheet-of (a .s .now) (a .c) in
+returns c = let p = c .before .before .before .before .before .before .before .before .before .before .before .before .before .before .before .before .before .before .before .before .before .before .pre .0 in let a = c .before .before .before .before .before .before .before .before .before .before .before .before .before .before .before .before .before .before .before .before .before .before .args in let t = sheet-of (a .s .now) (a .c) in
     let i = c .before .before .before .before .before .before .before .before .next-pair .result .start in let j = c .before .before .before .before .before .before .before .before .next-pair .result .end in
     let x = at-road t (item-at (a .t4) i) in let y = at-road t (item-at (a .t5) j) in
     let d = pair no-candidate no-candidate in
@@ -149,68 +143,59 @@ returns c = let p = c .before .before .before .before .before .before .before .b
     is0 ∙ ap (λ (z : Candidate). pair z (getD (held t (a .t5)) j no-candidate) ∷ sort by-sum (left (held t (a .t4)) (held t (a .t5)) (take (a .t4 .count) heads))) (held-at t (a .t4) (p .2 .room) i (c .before .before .before .before .before .before .before .before .next-pair .ensures .0)) ∙ ap (λ (z : Candidate). pair x z ∷ sort by-sum (left (held t (a .t4)) (held t (a .t5)) (take (a .t4 .count) heads))) (held-at t (a .t5) (p .3 .room) j (c .before .before .before .before .before .before .before .before .next-pair .ensures .1)) in
     let ten-heads = c .before .before .before .before .before .before .before .before .next-pair .kept .1 .1 .1 .1 .0 ∙ c .before .before .before .before .before .before .before .before .before .before .before .before .before .loop .inv .2 .long in
     let there = pair-there t (a .c) (a .t4) (a .t5) (p .2) (p .3) (c .before .before .before .before .before .before .before .before .before .before .before .before .before .loop .t) (c .before .before .before .before .before .before .before .before .before .before .before .before .loop-test .taken) (c .before .before .before .before .before .before .before .before .before .before .before .before .before .loop .heads) (c .before .before .before .before .before .before .before .before .before .before .before .before .before .loop .inv .2) x y heads ten-heads is d in
-    let reached : best-score (best-of (road-at t) (c .before .before .before .before .before .before .before .before .before .before .before .before .before .loop .st .best) (c .before .before .before .before .before .before .before .before .before .before .before .before .before .loop .best-route)) ≤ᶠ pair x y .sum ≡ true = rw (c .before .before .before .best-score .ensures (road-at t) (c .before .before .before .before .before .before .before .before .before .before .before .before .before .loop .best-route)) at (c .if1 .taken) in
-    (good-enough _ _ _ _ _ _ _ (order-long t (a .c) (a .t4) (a .t5) (p .2) (p .3)) _ _ _ (c .before .before .before .before .before .before .before .before .before .before .before .before .before .loop .inv .1) (c .before .before .before .before .before .before .before .before .before .before .before .before .loop-test .taken) (pair x y) d there reached, c .before .before .before .before .before .before .before .before .before .before .before .before .before .loop .inv .1 .fits)
+    let search = middle-search-at t (a .slots) (a .b) in
+    let reached : best-score (best-of search (c .before .before .before .before .before .before .before .before .before .before .before .before .before .loop .st .best)) ≤ᶠ pair x y .sum ≡ true = rw (c .before .before .before .best-score .ensures search) at (c .if1 .taken) in
+    (good-enough _ _ _ _ _ (order-long t (a .c) (a .t4) (a .t5) (p .2) (p .3)) _ _ (c .before .before .before .before .before .before .before .before .before .before .before .before .before .loop .inv .1) (c .before .before .before .before .before .before .before .before .before .before .before .before .loop-test .taken) (pair x y) d there reached, c .before .before .before .before .before .before .before .before .before .before .before .before .before .loop .inv .1 .remembers)
 
 try-pair-requires : tie.Need-try-pair-requires Inv-fill μ-fill Inv-loop μ-loop
-try-pair-requires c κs = let p = c .before .before .before .before .before .before .before .before .before .before .before .before .before .before .before .before .before .before .before .before .before .before .before .before .before .before .before .before .before .before .pre in let kept = c .before .before .before .before .before .before .before .before .before .before .before .before .before .before .before .before .before .before .before .loop .inv .0 in
-    ((p .0 .0, p .0 .1, p .0 .2 .named (c .before .before .before .before .before .before .before .before .before .before .before .before .before .before .next-pair .result .start) (c .before .before .before .before .before .before .before .before .before .before .before .before .before .before .next-pair .ensures .0), p .0 .3 .named (c .before .before .before .before .before .before .before .before .before .before .before .before .before .before .next-pair .result .end) (c .before .before .before .before .before .before .before .before .before .before .before .before .before .before .next-pair .ensures .1), c .before .before .before .before .before .before .before .before .before .before .before .before .before .before .before .before .before .before .before .loop .inv .1 .fits), (p .1 .0, omega (arith, kept .route, p .1 .1), omega (arith, kept .best-route, p .1 .2), sized-on (p .1 .3) (kept .sizes)))
+try-pair-requires c κs = let p = c .before .before .before .before .before .before .before .before .before .before .before .before .before .before .before .before .before .before .before .before .before .before .before .before .before .before .pre in let kept = c .before .before .before .before .before .before .before .before .before .before .before .before .before .before .before .before .before .loop .inv .0 in
+    ((p .0 .0, p .0 .1, p .0 .2 .named (c .before .before .before .before .before .before .before .before .before .before .before .before .next-pair .result .start) (c .before .before .before .before .before .before .before .before .before .before .before .before .next-pair .ensures .0), p .0 .3 .named (c .before .before .before .before .before .before .before .before .before .before .before .before .next-pair .result .end) (c .before .before .before .before .before .before .before .before .before .before .before .before .next-pair .ensures .1)), (p .1 .0, sized-on (p .1 .1) kept))
 
 next-place-requires : tie.Need-next-place-requires Inv-fill μ-fill Inv-loop μ-loop
-next-place-requires c κs = let p = c .before .before .before .before .before .before .before .before .before .before .before .before .before .before .before .before .before .before .before .before .before .before .before .before .before .before .before .before .before .before .before .before .before .before .before .before .before .before .before .before .before .before .before .pre .0 in let a = c .before .before .before .before .before .before .before .before .before .before .before .before .before .before .before .before .before .before .before .before .before .before .before .before .before .before .before .before .before .before .before .before .before .before .before .before .before .before .before .before .before .before .before .args in let t = sheet-of (a .s .now) (a .c) in (c .before .before .before .before .before .before .before .before .before .before .before .before .before .before .before .before .before .before .before .before .before .before .before .before .before .before .before .before .before .before .before .loop-test .taken, few t (a .c) (a .t4) (a .t5) (p .2) (p .3))
+next-place-requires c κs = let p = c .before .before .before .before .before .before .before .before .before .before .before .before .before .before .before .before .before .before .before .before .before .before .before .before .before .before .before .before .before .before .before .before .before .before .before .pre .0 in let a = c .before .before .before .before .before .before .before .before .before .before .before .before .before .before .before .before .before .before .before .before .before .before .before .before .before .before .before .before .before .before .before .before .before .before .before .args in let t = sheet-of (a .s .now) (a .c) in (c .before .before .before .before .before .before .before .before .before .before .before .before .before .before .before .before .before .before .before .before .before .before .before .before .before .loop-test .taken, few t (a .c) (a .t4) (a .t5) (p .2) (p .3))
 
 loop-less : tie.Need-loop-less Inv-fill μ-fill Inv-loop μ-loop
-loop-less c = let p = c .before .before .before .before .before .before .before .before .before .before .before .before .before .before .before .before .before .before .before .before .before .before .before .before .before .before .before .before .before .before .before .before .before .before .before .before .before .before .before .before .before .before .before .before .pre .0 in let a = c .before .before .before .before .before .before .before .before .before .before .before .before .before .before .before .before .before .before .before .before .before .before .before .before .before .before .before .before .before .before .before .before .before .before .before .before .before .before .before .before .before .before .before .before .args in let t = sheet-of (a .s .now) (a .c) in
-    rw (c .next-place .ensures) (nearer _ _ _ (in-order t (a .t4) (a .t5)) _ _ _ (order-long t (a .c) (a .t4) (a .t5) (p .2) (p .3)) _ _ _ (c .before .before .before .before .before .before .before .before .before .before .before .before .before .before .before .before .before .before .before .before .before .before .before .before .before .before .before .before .before .before .before .before .before .loop .inv .1) (c .before .before .before .before .before .before .before .before .before .before .before .before .before .before .before .before .before .before .before .before .before .before .before .before .before .before .before .before .before .before .before .before .loop-test .taken) _)
+loop-less c = let p = c .before .before .before .before .before .before .before .before .before .before .before .before .before .before .before .before .before .before .before .before .before .before .before .before .before .before .before .before .before .before .before .before .before .before .before .before .pre .0 in let a = c .before .before .before .before .before .before .before .before .before .before .before .before .before .before .before .before .before .before .before .before .before .before .before .before .before .before .before .before .before .before .before .before .before .before .before .before .args in let t = sheet-of (a .s .now) (a .c) in
+    rw (c .next-place .ensures) (nearer _ _ (in-order t (a .t4) (a .t5)) _ _ (order-long t (a .c) (a .t4) (a .t5) (p .2) (p .3)) _ _ (c .before .before .before .before .before .before .before .before .before .before .before .before .before .before .before .before .before .before .before .before .before .before .before .before .before .before .before .loop .inv .1) (c .before .before .before .before .before .before .before .before .before .before .before .before .before .before .before .before .before .before .before .before .before .before .before .before .before .before .loop-test .taken) _)
 
 loop-again : tie.Need-loop-again Inv-fill μ-fill Inv-loop μ-loop
-loop-again c = let p = c .before .before .before .before .before .before .before .before .before .before .before .before .before .before .before .before .before .before .before .before .before .before .before .before .before .before .before .before .before .before .before .before .before .before .before .before .before .before .before .before .before .before .before .before .pre .0 in let a = c .before .before .before .before .before .before .before .before .before .before .before .before .before .before .before .before .before .before .before .before .before .before .before .before .before .before .before .before .before .before .before .before .before .before .before .before .before .before .before .before .before .before .before .before .args in let t = sheet-of (a .s .now) (a .c) in let loop = c .before .before .before .before .before .before .before .before .before .before .before .before .before .before .before .before .before .before .before .before .before .before .before .before .before .before .before .before .before .before .before .before .before .loop in
-    let k = c .before .before .before .before .before .before .before .before .before .before .before .before .before .try-pair .kept .1 .1 .1 .1 .1 .1 .1 in
-    let l = c .before .before .before .before .before .before .before .before .before .before .before .before .before .try-pair .last .1 .1 .1 .1 .1 .1 .1 in
-    let next = l .1 .1 .1 .0 in
+loop-again c = let p = c .before .before .before .before .before .before .before .before .before .before .before .before .before .before .before .before .before .before .before .before .before .before .before .before .before .before .before .before .before .before .before .before .before .before .before .before .pre .0 in let a = c .before .before .before .before .before .before .before .before .before .before .before .before .before .before .before .before .before .before .before .before .before .before .before .before .before .before .before .before .before .before .before .before .before .before .before .before .args in let t = sheet-of (a .s .now) (a .c) in let loop = c .before .before .before .before .before .before .before .before .before .before .before .before .before .before .before .before .before .before .before .before .before .before .before .before .before .before .before .loop in
+    let k = c .before .before .before .before .before .before .before .before .before .try-pair .kept .1 .1 .1 .1 .1 .1 .1 in
+    let l = c .before .before .before .before .before .before .before .before .before .try-pair .last .1 .1 .1 .1 .1 .1 .1 in
     let long = order-long t (a .c) (a .t4) (a .t5) (p .2) (p .3) in
-    let i = c .before .before .before .before .before .before .before .before .before .before .before .before .before .before .before .before .before .before .before .before .before .before .before .before .before .before .before .before .next-pair .result .start in let j = c .before .before .before .before .before .before .before .before .before .before .before .before .before .before .before .before .before .before .before .before .before .before .before .before .before .before .before .before .next-pair .result .end in
+    let i = c .before .before .before .before .before .before .before .before .before .before .before .before .before .before .before .before .before .before .before .before .before .before .next-pair .result .start in let j = c .before .before .before .before .before .before .before .before .before .before .before .before .before .before .before .before .before .before .before .before .before .before .next-pair .result .end in
     let x = at-road t (item-at (a .t4) i) in let y = at-road t (item-at (a .t5) j) in
     let d = pair no-candidate no-candidate in
-    let all : c .before .before .before .before .before .before .before .before .before .before .before .before .before .before .before .before .before .before .before .before .before .before .before .before .before .before .before .before .before .before .before .before .before .before .before .before .fill .k ≡ 10 = omega (arith, c .before .before .before .before .before .before .before .before .before .before .before .before .before .before .before .before .before .before .before .before .before .before .before .before .before .before .before .before .before .before .before .before .before .before .before .before .fill .inv .0, c .before .before .before .before .before .before .before .before .before .before .before .before .before .before .before .before .before .before .before .before .before .before .before .before .before .before .before .before .before .before .before .before .before .before .before .fill-test .left) in
-    let is0 = c .before .before .before .before .before .before .before .before .before .before .before .before .before .before .before .before .before .before .before .before .before .before .before .before .before .before .before .before .next-pair .ensures .2 (held t (a .t4)) (held t (a .t5)) (scored t (a .c) (a .t4) (a .t5) (p .2) (p .3) _ _ (rw all at (c .before .before .before .before .before .before .before .before .before .before .before .before .before .before .before .before .before .before .before .before .before .before .before .before .before .before .before .before .before .before .before .before .before .before .before .before .fill .inv .1)) (rw all at (c .before .before .before .before .before .before .before .before .before .before .before .before .before .before .before .before .before .before .before .before .before .before .before .before .before .before .before .before .before .before .before .before .before .before .before .before .fill .inv .2))) in
-    let heads = c .before .before .before .before .before .before .before .before .before .before .before .before .before .before .before .before .before .before .before .before .before .before .before .before .before .before .before .before .next-pair .last .1 .1 .1 .1 .0 in
-    let is : sort by-sum (left (held t (a .t4)) (held t (a .t5)) (take (a .t4 .count) (c .before .before .before .before .before .before .before .before .before .before .before .before .before .before .before .before .before .before .before .before .before .before .before .before .before .before .before .before .before .before .before .before .before .loop .heads))) ≡ pair x y ∷ sort by-sum (left (held t (a .t4)) (held t (a .t5)) (take (a .t4 .count) heads)) =
-    is0 ∙ ap (λ (z : Candidate). pair z (getD (held t (a .t5)) j no-candidate) ∷ sort by-sum (left (held t (a .t4)) (held t (a .t5)) (take (a .t4 .count) heads))) (held-at t (a .t4) (p .2 .room) i (c .before .before .before .before .before .before .before .before .before .before .before .before .before .before .before .before .before .before .before .before .before .before .before .before .before .before .before .before .next-pair .ensures .0)) ∙ ap (λ (z : Candidate). pair x z ∷ sort by-sum (left (held t (a .t4)) (held t (a .t5)) (take (a .t4 .count) heads))) (held-at t (a .t5) (p .3 .room) j (c .before .before .before .before .before .before .before .before .before .before .before .before .before .before .before .before .before .before .before .before .before .before .before .before .before .before .before .before .next-pair .ensures .1)) in
-    let ten-heads = c .before .before .before .before .before .before .before .before .before .before .before .before .before .before .before .before .before .before .before .before .before .before .before .before .before .before .before .before .next-pair .kept .1 .1 .1 .1 .0 ∙ c .before .before .before .before .before .before .before .before .before .before .before .before .before .before .before .before .before .before .before .before .before .before .before .before .before .before .before .before .before .before .before .before .before .loop .inv .2 .long in
-    let there = pair-there t (a .c) (a .t4) (a .t5) (p .2) (p .3) (c .before .before .before .before .before .before .before .before .before .before .before .before .before .before .before .before .before .before .before .before .before .before .before .before .before .before .before .before .before .before .before .before .before .loop .t) (c .before .before .before .before .before .before .before .before .before .before .before .before .before .before .before .before .before .before .before .before .before .before .before .before .before .before .before .before .before .before .before .before .loop-test .taken) (c .before .before .before .before .before .before .before .before .before .before .before .before .before .before .before .before .before .before .before .before .before .before .before .before .before .before .before .before .before .before .before .before .before .loop .heads) (c .before .before .before .before .before .before .before .before .before .before .before .before .before .before .before .before .before .before .before .before .before .before .before .before .before .before .before .before .before .before .before .before .before .loop .inv .2) x y heads ten-heads is d in
-    let missed : best-score (best-of (road-at t) (loop .st .best) (loop .best-route)) ≤ᶠ pair x y .sum ≡ false = rw (c .before .before .before .before .before .before .before .before .before .before .before .before .before .before .before .before .before .before .before .before .before .before .before .best-score .ensures (road-at t) (loop .best-route)) at (c .before .before .before .before .before .before .before .before .before .before .before .before .before .before .before .before .before .before .before .before .if1 .left) in (
-      record {
-        sizes = sizes-on (loop .inv .0 .sizes) (areas-same (a .c .n) (a .slots) (loop .labels) (loop .came-from) (loop .entries) (loop .links) (l .0) (l .1 .0) (l .1 .1 .1 .1 .0) (l .1 .1 .1 .1 .1 .0) 0 0 0 0 (k .0) (k .1 .0) (k .1 .1 .1 .1 .0) (k .1 .1 .1 .1 .1 .0));
-        route = k .1 .1 .0 ∙ loop .inv .0 .route;
-        best-route = k .1 .1 .1 .0 ∙ loop .inv .0 .best-route;
-      },
-      rw (c .next-place .ensures) (good-turn _ _ _ _ _ _ _ long _ _ _ (loop .inv .1) (c .before .before .before .before .before .before .before .before .before .before .before .before .before .before .before .before .before .before .before .before .before .before .before .before .before .before .before .before .before .before .before .before .loop-test .taken) (pair x y) d there missed (c .before .before .before .before .before .before .before .before .before .before .before .before .before .try-pair .result) next (c .before .before .before .before .before .before .before .before .before .before .before .before .before .try-pair .ensures .0) (c .before .before .before .before .before .before .before .before .before .before .before .before .before .try-pair .ensures .1)),
-      rw (c .next-place .ensures) (heads-next t (a .c) (a .t4) (a .t5) (p .2) (p .3) (loop .t) (c .before .before .before .before .before .before .before .before .before .before .before .before .before .before .before .before .before .before .before .before .before .before .before .before .before .before .before .before .before .before .before .before .loop-test .taken) (loop .heads) (loop .inv .2) x y heads ten-heads is (c .before .before .before .before .before .before .before .before .before .before .before .before .before .try-pair .result .phase)),
+    let all : c .before .before .before .before .before .before .before .before .before .before .before .before .before .before .before .before .before .before .before .before .before .before .before .before .before .before .before .before .before .before .fill .k ≡ 10 = omega (arith, c .before .before .before .before .before .before .before .before .before .before .before .before .before .before .before .before .before .before .before .before .before .before .before .before .before .before .before .before .before .before .fill .inv .0, c .before .before .before .before .before .before .before .before .before .before .before .before .before .before .before .before .before .before .before .before .before .before .before .before .before .before .before .before .before .fill-test .left) in
+    let is0 = c .before .before .before .before .before .before .before .before .before .before .before .before .before .before .before .before .before .before .before .before .before .before .next-pair .ensures .2 (held t (a .t4)) (held t (a .t5)) (scored t (a .c) (a .t4) (a .t5) (p .2) (p .3) _ _ (rw all at (c .before .before .before .before .before .before .before .before .before .before .before .before .before .before .before .before .before .before .before .before .before .before .before .before .before .before .before .before .before .before .fill .inv .1)) (rw all at (c .before .before .before .before .before .before .before .before .before .before .before .before .before .before .before .before .before .before .before .before .before .before .before .before .before .before .before .before .before .before .fill .inv .2))) in
+    let heads = c .before .before .before .before .before .before .before .before .before .before .before .before .before .before .before .before .before .before .before .before .before .before .next-pair .last .1 .1 .1 .1 .0 in
+    let is : sort by-sum (left (held t (a .t4)) (held t (a .t5)) (take (a .t4 .count) (c .before .before .before .before .before .before .before .before .before .before .before .before .before .before .before .before .before .before .before .before .before .before .before .before .before .before .before .loop .heads))) ≡ pair x y ∷ sort by-sum (left (held t (a .t4)) (held t (a .t5)) (take (a .t4 .count) heads)) =
+    is0 ∙ ap (λ (z : Candidate). pair z (getD (held t (a .t5)) j no-candidate) ∷ sort by-sum (left (held t (a .t4)) (held t (a .t5)) (take (a .t4 .count) heads))) (held-at t (a .t4) (p .2 .room) i (c .before .before .before .before .before .before .before .before .before .before .before .before .before .before .before .before .before .before .before .before .before .before .next-pair .ensures .0)) ∙ ap (λ (z : Candidate). pair x z ∷ sort by-sum (left (held t (a .t4)) (held t (a .t5)) (take (a .t4 .count) heads))) (held-at t (a .t5) (p .3 .room) j (c .before .before .before .before .before .before .before .before .before .before .before .before .before .before .before .before .before .before .before .before .before .before .next-pair .ensures .1)) in
+    let ten-heads = c .before .before .before .before .before .before .before .before .before .before .before .before .before .before .before .before .before .before .before .before .before .before .next-pair .kept .1 .1 .1 .1 .0 ∙ c .before .before .before .before .before .before .before .before .before .before .before .before .before .before .before .before .before .before .before .before .before .before .before .before .before .before .before .loop .inv .2 .long in
+    let there = pair-there t (a .c) (a .t4) (a .t5) (p .2) (p .3) (c .before .before .before .before .before .before .before .before .before .before .before .before .before .before .before .before .before .before .before .before .before .before .before .before .before .before .before .loop .t) (c .before .before .before .before .before .before .before .before .before .before .before .before .before .before .before .before .before .before .before .before .before .before .before .before .before .before .loop-test .taken) (c .before .before .before .before .before .before .before .before .before .before .before .before .before .before .before .before .before .before .before .before .before .before .before .before .before .before .before .loop .heads) (c .before .before .before .before .before .before .before .before .before .before .before .before .before .before .before .before .before .before .before .before .before .before .before .before .before .before .before .loop .inv .2) x y heads ten-heads is d in
+    let search = middle-search-at t (a .slots) (a .b) in
+    let missed : best-score (best-of search (loop .st .best)) ≤ᶠ pair x y .sum ≡ false = rw (c .before .before .before .before .before .before .before .before .before .before .before .before .before .before .before .before .before .best-score .ensures search) at (c .before .before .before .before .before .before .before .before .before .before .before .before .before .before .if1 .left) in (
+      sizes-on (loop .inv .0) (areas-same (a .c .n) (a .slots) (loop .labels) (loop .came-from) (loop .entries) (loop .links) (l .0) (l .1 .0) (l .1 .1 .0) (l .1 .1 .1 .0) 0 0 0 0 (k .0) (k .1 .0) (k .1 .1 .0) (k .1 .1 .1 .0)),
+      rw (c .next-place .ensures) (good-turn _ _ _ _ _ long _ _ (loop .inv .1) (c .before .before .before .before .before .before .before .before .before .before .before .before .before .before .before .before .before .before .before .before .before .before .before .before .before .before .loop-test .taken) (pair x y) d there missed (c .before .before .before .before .before .before .before .before .before .try-pair .result) (c .before .before .before .before .before .before .before .before .before .try-pair .ensures .0) (c .before .before .before .before .before .before .before .before .before .try-pair .ensures .1 (loop .inv .1 .remembers))),
+      rw (c .next-place .ensures) (heads-next t (a .c) (a .t4) (a .t5) (p .2) (p .3) (loop .t) (c .before .before .before .before .before .before .before .before .before .before .before .before .before .before .before .before .before .before .before .before .before .before .before .before .before .before .loop-test .taken) (loop .heads) (loop .inv .2) x y heads ten-heads is (c .before .before .before .before .before .before .before .before .before .try-pair .result .phase)),
     )
 
+same-length-5 : tie.Need-same-length-5 Inv-fill μ-fill Inv-loop μ-loop
+same-length-5 c = both-size (c .before .before .before .before .before .before .before .before .before .before .args .c .n) (c .before .before .before .before .before .before .before .before .before .before .args .labels .now) (c .before .loop .labels) (c .before .loop .inv .0 .real) (c .before .loop .inv .0 .penalised)
+
+same-length-6 : tie.Need-same-length-6 Inv-fill μ-fill Inv-loop μ-loop
+same-length-6 c = c .before .loop .inv .0 .came
+
 same-length-7 : tie.Need-same-length-7 Inv-fill μ-fill Inv-loop μ-loop
-same-length-7 c = both-size (c .before .before .before .before .before .before .before .before .before .before .before .before .args .c .n) (c .before .before .before .before .before .before .before .before .before .before .before .before .args .labels .now) (c .before .loop .labels) (c .before .loop .inv .0 .sizes .real) (c .before .loop .inv .0 .sizes .penalised)
+same-length-7 c = both-size (c .before .before .before .before .before .before .before .before .before .before .args .slots) (c .before .before .before .before .before .before .before .before .before .before .args .entries .now) (c .before .loop .entries) (c .before .loop .inv .0 .f-score) (c .before .loop .inv .0 .g-score)
 
 same-length-8 : tie.Need-same-length-8 Inv-fill μ-fill Inv-loop μ-loop
-same-length-8 c = c .before .loop .inv .0 .sizes .came
-
-same-length-9 : tie.Need-same-length-9 Inv-fill μ-fill Inv-loop μ-loop
-same-length-9 c = c .before .loop .inv .0 .route
-
-same-length-10 : tie.Need-same-length-10 Inv-fill μ-fill Inv-loop μ-loop
-same-length-10 c = c .before .loop .inv .0 .best-route
-
-same-length-11 : tie.Need-same-length-11 Inv-fill μ-fill Inv-loop μ-loop
-same-length-11 c = both-size (c .before .before .before .before .before .before .before .before .before .before .before .before .args .slots) (c .before .before .before .before .before .before .before .before .before .before .before .before .args .entries .now) (c .before .loop .entries) (c .before .loop .inv .0 .sizes .f-score) (c .before .loop .inv .0 .sizes .g-score)
-
-same-length-12 : tie.Need-same-length-12 Inv-fill μ-fill Inv-loop μ-loop
-same-length-12 c = both-size (c .before .before .before .before .before .before .before .before .before .before .before .before .args .slots) (c .before .before .before .before .before .before .before .before .before .before .before .before .args .links .now) (c .before .loop .links) (c .before .loop .inv .0 .sizes .order) (c .before .loop .inv .0 .sizes .node)
+same-length-8 c = both-size (c .before .before .before .before .before .before .before .before .before .before .args .slots) (c .before .before .before .before .before .before .before .before .before .before .args .links .now) (c .before .loop .links) (c .before .loop .inv .0 .order) (c .before .loop .inv .0 .node)
 
 returns-2 : tie.Need-returns-2 Inv-fill μ-fill Inv-loop μ-loop
-returns-2 c = let p = c .before .before .before .before .before .before .before .before .before .before .before .before .pre .0 in let a = c .before .before .before .before .before .before .before .before .before .before .before .before .args in let t = sheet-of (a .s .now) (a .c) in
+returns-2 c = let p = c .before .before .before .before .before .before .before .before .before .before .pre .0 in let a = c .before .before .before .before .before .before .before .before .before .before .args in let t = sheet-of (a .s .now) (a .c) in
     let long = order-long t (a .c) (a .t4) (a .t5) (p .2) (p .3) in
-    (good-end _ _ _ _ _ _ _ long _ _ _ (c .before .loop .inv .1) (c .loop-test .left), c .before .loop .inv .1 .fits)
+    (good-end _ _ _ _ _ long _ _ (c .before .loop .inv .1) (c .loop-test .left), c .before .loop .inv .1 .remembers)
 
 pub try-pairs-spec : {M : Type 1} → statement M
 try-pairs-spec =
@@ -248,17 +233,13 @@ try-pairs-spec =
     same-length-2
     same-length-3
     same-length-4
-    same-length-5
-    same-length-6
     returns
     try-pair-requires
     next-place-requires
     loop-less
     loop-again
+    same-length-5
+    same-length-6
     same-length-7
     same-length-8
-    same-length-9
-    same-length-10
-    same-length-11
-    same-length-12
     returns-2)

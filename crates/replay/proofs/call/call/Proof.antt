@@ -9,47 +9,23 @@ metres-twice-requires c κs = search needs
 numbers-requires : tie.Need-numbers-requires
 numbers-requires c κs = search needs
 
-numbers-requires-2 : tie.Need-numbers-requires-2
-numbers-requires-2 c κs = search needs
-
-numbers-requires-3 : tie.Need-numbers-requires-3
-numbers-requires-3 c κs = search needs
-
 halves-at-requires : tie.Need-halves-at-requires
 halves-at-requires c κs = search needs
 
 size-at-requires : tie.Need-size-at-requires
 size-at-requires c κs = search needs
 
-size-at-requires-2 : tie.Need-size-at-requires-2
-size-at-requires-2 c κs = search needs
-
-size-at-requires-3 : tie.Need-size-at-requires-3
-size-at-requires-3 c κs = search needs
-
 array-borrow-prefix-labels : tie.Need-array-borrow-prefix-labels
 array-borrow-prefix-labels c = search needs
 
 slice-aggregate-call-with-heap : tie.Need-slice-aggregate-call-with-heap
-slice-aggregate-call-with-heap c = front _ _ (c .before .before .before .before .halves-at .ensures) (c .before .before .before .before .before .before .before .before .metres-twice .ensures)
+slice-aggregate-call-with-heap c = front _ _ (c .before .before .halves-at .ensures) (c .before .before .before .before .metres-twice .ensures)
 
 array-borrow-prefix-came-from : tie.Need-array-borrow-prefix-came-from
 array-borrow-prefix-came-from c = search needs
 
 slice-aggregate-call-with-heap-2 : tie.Need-slice-aggregate-call-with-heap-2
-slice-aggregate-call-with-heap-2 c = front _ _ (c .before .before .before .before .size-at .ensures) (c .before .before .before .before .before .before .before .before .numbers .ensures)
-
-array-borrow-prefix-route : tie.Need-array-borrow-prefix-route
-array-borrow-prefix-route c = search needs
-
-slice-aggregate-call-with-heap-3 : tie.Need-slice-aggregate-call-with-heap-3
-slice-aggregate-call-with-heap-3 c = front _ _ (c .before .before .before .before .size-at2 .ensures) (c .before .before .before .before .before .before .before .before .numbers2 .ensures)
-
-array-borrow-prefix-best-route : tie.Need-array-borrow-prefix-best-route
-array-borrow-prefix-best-route c = search needs
-
-slice-aggregate-call-with-heap-4 : tie.Need-slice-aggregate-call-with-heap-4
-slice-aggregate-call-with-heap-4 c = front _ _ (c .before .before .before .before .size-at3 .ensures) (c .before .before .before .before .before .before .before .before .numbers3 .ensures)
+slice-aggregate-call-with-heap-2 c = front _ _ (c .before .before .size-at .ensures) (c .before .before .before .before .numbers .ensures)
 
 call-with-heap-requires : tie.Need-call-with-heap-requires
 call-with-heap-requires c κs = search needs
@@ -69,20 +45,12 @@ call-spec =
     (tie.spec
     metres-twice-requires
     numbers-requires
-    numbers-requires-2
-    numbers-requires-3
     halves-at-requires
     size-at-requires
-    size-at-requires-2
-    size-at-requires-3
     array-borrow-prefix-labels
     slice-aggregate-call-with-heap
     array-borrow-prefix-came-from
     slice-aggregate-call-with-heap-2
-    array-borrow-prefix-route
-    slice-aggregate-call-with-heap-3
-    array-borrow-prefix-best-route
-    slice-aggregate-call-with-heap-4
     call-with-heap-requires
     same-length
     same-length-2

@@ -31,46 +31,40 @@ array-borrow-prefix-entries : tie.Need-array-borrow-prefix-entries
 array-borrow-prefix-entries c = search needs
 
 slice-aggregate-decode : tie.Need-slice-aggregate-decode
-slice-aggregate-decode c = front _ _ (c .before .before .before .before .before .before .before .before .halves-at .ensures) (c .before .before .before .before .before .before .before .before .before .before .before .before .metres-twice .ensures)
+slice-aggregate-decode c = front _ _ (c .before .before .before .before .before .before .halves-at .ensures) (c .before .before .before .before .before .before .before .before .before .before .metres-twice .ensures)
 
 array-borrow-prefix-links : tie.Need-array-borrow-prefix-links
 array-borrow-prefix-links c = search needs
 
 slice-aggregate-decode-2 : tie.Need-slice-aggregate-decode-2
-slice-aggregate-decode-2 c = front _ _ (c .before .before .before .before .before .before .before .before .halves-at2 .ensures) (c .before .before .before .before .before .before .before .before .before .before .before .before .numbers-twice .ensures)
+slice-aggregate-decode-2 c = front _ _ (c .before .before .before .before .before .before .halves-at2 .ensures) (c .before .before .before .before .before .before .before .before .before .before .numbers-twice .ensures)
 
 array-borrow-prefix-covered : tie.Need-array-borrow-prefix-covered
 array-borrow-prefix-covered c = search needs
 
 slice-aggregate-decode-3 : tie.Need-slice-aggregate-decode-3
-slice-aggregate-decode-3 c = front _ _ (c .before .before .before .before .before .before .before .before .size-at .ensures) (c .before .before .before .before .before .before .before .before .before .before .before .before .numbers .ensures)
+slice-aggregate-decode-3 c = front _ _ (c .before .before .before .before .before .before .size-at .ensures) (c .before .before .before .before .before .before .before .before .before .before .numbers .ensures)
 
 array-borrow-prefix-coverage : tie.Need-array-borrow-prefix-coverage
 array-borrow-prefix-coverage c = search needs
 
 slice-aggregate-decode-4 : tie.Need-slice-aggregate-decode-4
-slice-aggregate-decode-4 c = front _ _ (c .before .before .before .before .before .before .before .before .size-at2 .ensures) (c .before .before .before .before .before .before .before .before .before .before .before .before .metres .ensures)
+slice-aggregate-decode-4 c = front _ _ (c .before .before .before .before .before .before .size-at2 .ensures) (c .before .before .before .before .before .before .before .before .before .before .metres .ensures)
 
 decode-requires : tie.Need-decode-requires
 decode-requires c κs = tt
 
 same-length : tie.Need-same-length
-same-length c = c .before .before .before .before .before .before .before .before .before .before .before .before .before .before .before .before .decode .kept .1 .0
+same-length c = c .before .before .before .before .before .before .before .before .before .before .before .before .decode .kept .1 .0
 
 same-length-2 : tie.Need-same-length-2
-same-length-2 c = c .before .before .before .before .before .before .before .before .before .before .before .before .before .before .before .before .decode .kept .1 .1 .0
+same-length-2 c = c .before .before .before .before .before .before .before .before .before .before .before .before .decode .kept .1 .1 .0
 
 same-length-3 : tie.Need-same-length-3
-same-length-3 c = c .before .before .before .before .before .before .before .before .before .before .before .before .before .before .before .before .decode .kept .1 .1 .1 .0
+same-length-3 c = c .before .before .before .before .before .before .before .before .before .before .before .before .decode .kept .1 .1 .1 .1 .1 .1 .1 .0
 
 same-length-4 : tie.Need-same-length-4
-same-length-4 c = c .before .before .before .before .before .before .before .before .before .before .before .before .before .before .before .before .decode .kept .1 .1 .1 .1 .0
-
-same-length-5 : tie.Need-same-length-5
-same-length-5 c = c .before .before .before .before .before .before .before .before .before .before .before .before .before .before .before .before .decode .kept .1 .1 .1 .1 .1 .1 .1 .1 .1 .0
-
-same-length-6 : tie.Need-same-length-6
-same-length-6 c = c .before .before .before .before .before .before .before .before .before .before .before .before .before .before .before .before .decode .kept .1 .1 .1 .1 .1 .1 .1 .1 .1 .1 .0
+same-length-4 c = c .before .before .before .before .before .before .before .before .before .before .before .before .decode .kept .1 .1 .1 .1 .1 .1 .1 .1 .0
 
 returns : tie.Need-returns
 returns c = tt
@@ -100,6 +94,4 @@ call-with-heap-spec =
     same-length-2
     same-length-3
     same-length-4
-    same-length-5
-    same-length-6
     returns)

@@ -6,7 +6,7 @@ use Rattle.replay.proofs.list.notice.Tie as tie
 
 abbrev Inv-loop : tie.InvT-loop
 Inv-loop file replayed differ₀ i₀ differ i =
-    (i ≤ replayed) × (differ ≤ i) × (replayed * 56 ≤ length file - 4)
+    (i ≤ replayed) × (differ ≤ i) × (replayed * 52 ≤ length file - 4)
 
 abbrev μ-loop : tie.MeasureT-loop
 μ-loop file replayed differ₀ i₀ differ i =

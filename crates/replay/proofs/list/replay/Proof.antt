@@ -5,7 +5,7 @@ use Rattle.replay.proofs.list.replay.Statement.{statement}
 use Rattle.replay.proofs.list.replay.Tie as tie
 
 abbrev Inv-loop : tie.InvT-loop
-Inv-loop file replayed differ₀ i₀ differ i = (i ≤ replayed) × (differ ≤ i + 1) × (replayed * 56 ≤ length file - 4)
+Inv-loop file replayed differ₀ i₀ differ i = (i ≤ replayed) × (differ ≤ i + 1) × (replayed * 52 ≤ length file - 4)
 
 abbrev μ-loop : tie.MeasureT-loop
 μ-loop file replayed differ₀ i₀ differ i = replayed - i

@@ -4,10 +4,10 @@ use Rattle.replay.proofs.record.sizes_fit.Statement.{statement}
 use Rattle.replay.proofs.record.sizes_fit.Tie as tie
 
 abbrev Inv-loop : tie.InvT-loop
-Inv-loop file at k₀ k = k ≤ 13
+Inv-loop file at k₀ k = k ≤ 11
 
 abbrev μ-loop : tie.MeasureT-loop
-μ-loop file at k₀ k = 13 - k
+μ-loop file at k₀ k = 11 - k
 
 loop-holds : tie.Need-loop-holds Inv-loop μ-loop
 loop-holds c = search needs

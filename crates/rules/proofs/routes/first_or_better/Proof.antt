@@ -8,10 +8,10 @@ improve-requires : tie.Need-improve-requires
 improve-requires c κs = search needs
 
 returns : tie.Need-returns
-returns c = λ roads area. c .improve .ensures roads area ∙ is-later roads _ _ area (c .before .if1 .taken)
+returns c = λ search. c .improve .ensures search ∙ is-later search _ _ (c .before .if1 .taken)
 
 returns-2 : tie.Need-returns-2
-returns-2 c = λ roads area. is-first roads _ _ area (c .if1 .left)
+returns-2 c = λ search. is-first search _ _ (c .if1 .left)
 
 pub first-or-better-spec : {M : Type 1} → statement M
 first-or-better-spec = tie.close (tie.spec improve-requires returns returns-2)

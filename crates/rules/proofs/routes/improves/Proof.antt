@@ -7,10 +7,10 @@ best-score-requires : tie.Need-best-score-requires
 best-score-requires c κs = search needs
 
 returns : tie.Need-returns
-returns c = λ roads old new. lower-improves roads _ _ old new (c .before .before .if1 .taken) _ (c .before .best-score .ensures roads old)
+returns c = λ search. lower-improves search _ _ (c .before .before .if1 .taken) _ (c .before .best-score .ensures search)
 
 returns-2 : tie.Need-returns-2
-returns-2 c = λ roads old new. none-improves roads _ _ old new (c .if1 .left)
+returns-2 c = λ search. none-improves search _ _ (c .if1 .left)
 
 pub improves-spec : {M : Type 1} → statement M
 improves-spec = tie.close (tie.spec best-score-requires returns returns-2)

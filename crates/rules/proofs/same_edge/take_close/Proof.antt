@@ -14,10 +14,10 @@ first-or-better-requires : tie.Need-first-or-better-requires
 first-or-better-requires c κs = search needs
 
 returns : tie.Need-returns
-returns c = λ roads area. c .first-or-better .ensures roads area ∙ rw (c .before .same-edge-scored .ensures roads area) (close-taken _ _ _ (sym (c .before .before .before .close .ensures) ∙ c .before .before .if1 .taken))
+returns c = λ search. c .first-or-better .ensures search ∙ rw (c .before .same-edge-scored .ensures search) (close-taken _ _ _ (sym (c .before .before .before .close .ensures) ∙ c .before .before .if1 .taken))
 
 returns-2 : tie.Need-returns-2
-returns-2 c = λ roads area. close-left _ _ _ (sym (c .before .close .ensures) ∙ c .if1 .left)
+returns-2 c = λ search. close-left _ _ _ (sym (c .before .close .ensures) ∙ c .if1 .left)
 
 pub take-close-spec : {M : Type 1} → statement M
 take-close-spec =

@@ -3,7 +3,6 @@ use borrow.Author.Needs.{needs}
 use Rattle.sheet.proofs.numbers.target.Statement.{statement}
 use Rattle.sheet.proofs.numbers.target.Tie as tie
 use Rattle.sheet.proofs.numbers.target.Reads as reads
-use Rattle.sheet.proofs.numbers.target.Lts as lts
 use Rattle.fields.proofs.count_at.Reads as count-at-reads
 use Rattle.sheet.proofs.layout.roads_at.Reads as roads-at-reads
 
