@@ -20,7 +20,7 @@ use Rattle.candidates.proofs.Folds.{fold-one-more}
 use Rattle.search.proofs.Tables.{table-set, table-more}
 use Rattle.full_path.specs.declared.EdgeCoverage.{EdgeCoverage}
 use Rattle.search.specs.Answers.{RoadNumbers}
-use Rattle.full_path.specs.Left.{coverage-of, Numbered, Place, coverages-at, cover-with, cover-all}
+use Rattle.full_path.specs.Left.{coverage-of, Numbered, PlaceAmong, coverages-at, cover-with, cover-all}
 
 -- ---- a list
 
@@ -79,7 +79,7 @@ module _ (covered : List ℕ) (coverage : List Float) (n : ℕ) (k : EdgeCoverag
     unfolding cover-with
     listed a b = last-entry a b
 
-    module _ (e : ℕ) (own : Numbered t e) (below : RoadNumbers e n covered) (known : k .«edge_idx» < e) (i : ℕ) (place : Place covered n (k .«edge_idx») i) where
+    module _ (e : ℕ) (own : Numbered t e) (below : RoadNumbers e n covered) (known : k .«edge_idx» < e) (i : ℕ) (place : PlaceAmong covered n (k .«edge_idx») i) where
       size : length (coverages-at t n covered coverage) ≡ n
       unfolding coverages-at
       size = length-tab n 0 (entry t covered coverage)

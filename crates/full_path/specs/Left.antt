@@ -105,7 +105,7 @@ unfoldable pub coverages-at : Sheet → ℕ → List ℕ → List Float → List
 coverages-at t n covered coverage = tabulate n 0 (λ j. coverage-of t record { «edge_idx» = getD covered j 0; «coverage_m» = getD coverage j nan })
 
 -- the place i of a road among the first n, or n
-pub record Place (covered : List ℕ) (n road i : ℕ) : Type 0 where
+pub record PlaceAmong (covered : List ℕ) (n road i : ℕ) : Type 0 where
   pub within : i ≤ n
   pub here : i < n → getD covered i 0 ≡ road
   pub before : (j : ℕ) → j < i → getD covered j 0 ≢ road

@@ -10,7 +10,7 @@ ghost use Rattle.model.specs.Sheet.{Sheet, sheet-of};
 ghost use Rattle.model.specs.Legs as legs;
 ghost use Rattle.model.specs.Decode.{primary-edge};
 ghost use Rattle.search.specs.Answers.{RoadNumbers};
-ghost use Rattle.full_path.specs.Left.{covers, Known, coverage-of, Numbered, Place, coverages-at, cover-with, cover-all, primary-of, Within};
+ghost use Rattle.full_path.specs.Left.{covers, Known, coverage-of, Numbered, PlaceAmong, coverages-at, cover-with, cover-all, primary-of, Within};
 use crate::EdgeCoverage;
 use crate::Primary;
 use crate::path;
@@ -48,7 +48,7 @@ fn cover_at(s: &[u8], c: Counts, r: PathResult, area: &[u64], j: usize) -> EdgeC
 // The place of a road among the first n, or n.
 fn find(covered: &[usize], n: usize, road: usize) -> usize
     requires { ⌜ n ≤ length (now covered) ⌝ }
-    ensures { λ i. ⌜ Place (now (covered .entry)) n road i ⌝ }
+    ensures { λ i. ⌜ PlaceAmong (now (covered .entry)) n road i ⌝ }
 {
     let mut i = 0;
     while i < n {

@@ -5,7 +5,7 @@ use mathlib.Core.Path.{_≡_, refl, sym, ap, ap₂, _∙_}
 use mathlib.Core.List.{List, [], _++_, append-assoc}
 use lib.ListN.{length, take, drop, length-append}
 use lib.Seq.{paste, paste-zero, take-length, take-at, drop-at, drop-drop, length-take-le}
-use Rattle.text.specs.Buffer.{Stands, Put}
+use Rattle.text.specs.Buffer.{BytesAt, Put}
 
 -- no room: nothing is written
 pub put-nothing : (bytes before : List ℕ) (at : ℕ) → at ≤ length before → length before - at < length bytes → Put bytes before before at at
@@ -28,7 +28,7 @@ put-whole bytes before after at i same fits all is = record {
 }
 
 module _ {xs ys a b c : List ℕ} {at m e : ℕ} (p : Put xs a b at m) (q : Put ys b c m e) where
-  joined : Stands xs a b at m → Stands ys b c m e → at + length xs ≤ length a → Stands (xs ++ ys) a c at e
+  joined : BytesAt xs a b at m → BytesAt ys b c m e → at + length xs ≤ length a → BytesAt (xs ++ ys) a c at e
   joined s t fits =
       let front = take at a ++ xs in
       let count : length front ≡ m = length-append (take at a) xs ∙ omega (arith, length-take-le at a (omega arith), s .end-is) in

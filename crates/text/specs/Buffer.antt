@@ -11,7 +11,7 @@ use Rattle.text.specs.declared.Written.{Written}
 use Rattle.text.specs.declared.Written.the-variants as W
 
 -- the bytes stand from `at` on and nothing else is changed
-pub record Stands (bytes before after : List ℕ) (at end : ℕ) : Type 0 where
+pub record BytesAt (bytes before after : List ℕ) (at end : ℕ) : Type 0 where
   pub end-is : end ≡ at + length bytes
   pub is : after ≡ take at before ++ bytes ++ drop (at + length bytes) before
 
@@ -19,7 +19,7 @@ pub record Stands (bytes before after : List ℕ) (at end : ℕ) : Type 0 where
 pub record Put (bytes before after : List ℕ) (at end : ℕ) : Type 0 where
   pub within : end ≤ length before
   pub size : length after ≡ length before
-  pub stands : at + length bytes ≤ length before → Stands bytes before after at end
+  pub stands : at + length bytes ≤ length before → BytesAt bytes before after at end
 
 -- what writing a text answers, and the buffer afterwards: the text at its front, or untouched where the text is longer
 abbrev pub told : List ℕ → List ℕ → Written
