@@ -1,4 +1,6 @@
 // The answer lists: whether there is room for them and for the work, and the path's ids and lengths in them.
+#![tactic(auto)]
+
 ghost use Rattle.std.specs.Prelude.{◌≡◌, ◌&&◌, ◌++◌, map, ℕ, ◌≤◌, ◌<◌, leb, length, get_or, take, drop, replicate};
 ghost use Rattle.model.specs.Numbers.{f0};
 ghost use Rattle.model.specs.Judge.{WellFormed};
@@ -10,7 +12,7 @@ use model::Counts;
 use sheet::roads;
 
 // The sizes of the lent areas in entries, each the least of its slices', and of the answer lists.
-#[derive(Drop)]
+#[derive(Clone, Copy)]
 pub struct Sizes {
     pub node: usize,
     pub heap: usize,
@@ -20,7 +22,7 @@ pub struct Sizes {
 }
 
 // A match: the path's road count, the sum of the legs, offset and fraction at both ends, the primary road's id and its coverage.
-#[derive(Drop)]
+#[derive(Clone, Copy)]
 pub struct Match {
     pub count: usize,
     pub length_m: f64,
@@ -33,7 +35,7 @@ pub struct Match {
 }
 
 // All that a call returns: a match, or a refusal's number, A and B.
-#[derive(Drop)]
+#[derive(Clone, Copy)]
 pub enum Answer {
     Matched(Match),
     Refused(usize, usize, usize),

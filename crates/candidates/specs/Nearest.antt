@@ -1,5 +1,5 @@
 -- The nearest candidates of a point, as they are told by its rows.
-use Rattle.std.specs.Prelude.{ℕ, ◌≡◌, true, List, map, length, take, Float}
+use Rattle.std.specs.Prelude.{ℕ, ◌≡◌, true, map, length, take, Float}
 use Rattle.std.specs.Float.{nan}
 use Rattle.std.specs.Float.Ieee.{eq}
 use Rattle.model.specs.Numbers.{fmin, infinity}

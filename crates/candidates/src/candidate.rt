@@ -8,7 +8,7 @@ use model::{Point, Road, Row, Settings};
 use road_network::{road_class, spatial};
 
 // A road that a point may lie on, by its number.
-#[derive(Drop)]
+#[derive(Clone, Copy)]
 pub struct Candidate {
     pub edge_idx: usize,
     pub distance_m: f64,

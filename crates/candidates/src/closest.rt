@@ -14,7 +14,7 @@ use model::{Counts, MOST_MEASURED, Settings};
 use sheet::{points, roads};
 
 // The points are fine, or refusal 9 names this one.
-#[derive(Drop)]
+#[derive(Clone, Copy)]
 pub enum Points {
     Fine,
     NoCandidate(usize),
@@ -24,21 +24,21 @@ pub enum Points {
 const MOST_PASSING: usize = MOST_MEASURED as usize;
 
 // How many rows of a point pass, and the least distance of these.
-#[derive(Drop)]
+#[derive(Clone, Copy)]
 pub struct Seen {
     pub passing: usize,
     pub least: f64,
 }
 
 // What decides whether a row is kept, and how near it is.
-#[derive(Drop)]
+#[derive(Clone, Copy)]
 pub struct Away {
     pub score: f64,
     pub distance: f64,
 }
 
 // The rows of a point that pass, best first.
-#[derive(Drop)]
+#[derive(Clone, Copy)]
 pub struct Aways {
     pub count: usize,
     pub items: [Away; MOST_PASSING],

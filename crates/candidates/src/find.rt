@@ -13,7 +13,7 @@ use sheet::{points, roads};
 pub const MOST_TRIED: usize = 10;
 
 // The first `count` places hold a point's candidates, best first.
-#[derive(Drop)]
+#[derive(Clone, Copy)]
 pub struct Candidates {
     pub count: usize,
     pub items: [Candidate; MOST_TRIED],

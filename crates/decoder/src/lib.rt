@@ -1,4 +1,6 @@
 // The whole call: one sheet of bytes and lent areas in, an answer and two answer lists out. Nothing is presumed of the caller.
+#![tactic(auto)]
+
 ghost use Rattle.std.specs.Prelude.{◌≡◌, ◌<◌, min, length};
 ghost use Rattle.model.specs.Judge.{WellFormed};
 ghost use Rattle.model.specs.Sheet.{sheet_of};
@@ -15,7 +17,7 @@ use model::{Counts, Judged};
 use sheet::{numbers, points};
 
 // What refusals 1 to 6 say: refused with its number and A, or on with the counts of a well-formed sheet.
-#[derive(Drop)]
+#[derive(Clone, Copy)]
 pub enum Opened {
     Refused(usize, usize),
     Open(Counts),
@@ -86,7 +88,7 @@ pub fn decode(
 ) -> Answer
     ensures { decoded result ids.new lengths.new
         ≡ decode sheet.now (lent record {
-          labels = length labels.entry.now;
+          labels = length labels.old;
           came_from = length came_from.old;
           entries = length entries.old;
           links = length links.old;

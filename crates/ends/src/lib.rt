@@ -1,4 +1,6 @@
 // finalize_path: the walks along forced ways at both ends of a path.
+#![tactic(auto)]
+
 pub mod caps;
 pub mod lists;
 pub mod walks;
@@ -16,14 +18,14 @@ use search::route;
 use sheet::{distances, roads};
 
 // A path after the walk at an end: how many roads it has, and the offset at that end.
-#[derive(Drop)]
+#[derive(Clone, Copy)]
 pub struct WalkedEnd {
     pub count: usize,
     pub offset: f64,
 }
 
 // A path after the walks at both ends: how many roads it has, and its offsets in metres and as parts of the first and the last road.
-#[derive(Drop)]
+#[derive(Clone, Copy)]
 pub struct Final {
     pub count: usize,
     pub start_offset: f64,

@@ -16,7 +16,7 @@ use road_network::graph::Forced;
 use sheet::roads;
 
 // A walk's answer: so many roads added, of so many metres; or nothing.
-#[derive(Drop)]
+#[derive(Clone, Copy)]
 pub enum Extension {
     Kept(usize, f64),
     Dropped,

@@ -1,4 +1,6 @@
 // Little-endian numbers at an offset of a byte slice. Each compiles to one load.
+#![tactic(auto)]
+
 ghost use Rattle.std.specs.Prelude.{◌≡◌, ◌+◌, ◌^◌, ◌≤◌, ◌<◌, length};
 ghost use Rattle.model.specs.Bytes.{u16_at, u32_at, u64_at, f64_at};
 ghost use Rattle.model.specs.Table.{most_f64};

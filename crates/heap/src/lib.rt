@@ -1,6 +1,8 @@
 // Rust's BinaryHeap on a lent slice of entry numbers, with the entries' keys in another. A lower key is greater.
 // The heap is the first `len` numbers of `order`; what stands behind them has no part.
 // A hole is a place whose content does not count: the entry e goes there, or further on.
+#![tactic(auto)]
+
 ghost use Rattle.std.specs.Prelude.{◌≡◌, ◌+◌, ◌-◌, ◌<◌, ◌≤◌, length, get_or, take};
 ghost use Rattle.model.specs.Numbers.{◌≤ᶠ◌};
 ghost use Rattle.model.specs.Heap.{sift_up, child, sink, push, pop};
@@ -36,7 +38,7 @@ fn sift_up(order: &mut [usize], key: &[f64], e: usize, hole: usize)
 // The place of the greater of the children at `left` and left + 1: the right one if equal.
 fn greater_child(order: &[usize], key: &[f64], left: usize) -> usize
     requires left_in_bounds { left + 1 < length order.now }
-    requires left_in_bounds_2 { (get_or order.now left 0 < length key.now) × (get_or order.now (left + 1) 0 < length key.now) }
+    requires children_below { (get_or order.now left 0 < length key.now) × (get_or order.now (left + 1) 0 < length key.now) }
     ensures { (result ≡ child (key_in key.now) order.now left) × (left ≤ result) × (result ≤ left + 1) }
 {
     let right = left + 1;

@@ -1,4 +1,6 @@
-// The calls for hosts in C or Rust. Built by `rt staticlib hemokatu`.
+// The calls for hosts in C or Rust. Built by `rt lib` in this folder.
+#![tactic(auto)]
+
 ghost use Rattle.std.specs.Prelude.{◌≡◌, length};
 ghost use Rattle.model.specs.Judge.{judged};
 ghost use Rattle.model.specs.Call.{decode};
@@ -24,7 +26,7 @@ pub extern "C" fn hemokatu_version() -> u32
 
 // A refusal's number and its place A; both 0 for a well-formed sheet.
 #[repr(C)]
-#[derive(Drop)]
+#[derive(Clone, Copy)]
 pub struct Judgement {
     pub number: usize,
     pub place: usize,
@@ -47,7 +49,7 @@ pub extern "C" fn hemokatu_judge(sheet: &[u8]) -> Judgement
 
 // The least entries of each area for a sheet of some points and nodes: a node area, the heap, and the coverage area or an answer list. An entry has two places in `labels`, `entries` and `links`. A larger heap lets larger searches end.
 #[repr(C)]
-#[derive(Drop)]
+#[derive(Clone, Copy)]
 pub struct Sizes {
     pub node: usize,
     pub heap_least: usize,
@@ -79,7 +81,7 @@ pub extern "C" fn hemokatu_sizes(points: usize, nodes: usize) -> Sizes
 
 // All that a call answers. Number 0 is a match; a refusal has its number, A and B, and zeros elsewhere.
 #[repr(C)]
-#[derive(Drop)]
+#[derive(Clone, Copy)]
 pub struct Answered {
     pub number: usize,
     pub a: usize,
@@ -146,7 +148,7 @@ pub extern "C" fn hemokatu_decode(
 ) -> Answered
     ensures { AnsweredAs result ids.new lengths.new
         (decode sheet.now (lent record {
-          labels = length labels.entry.now;
+          labels = length labels.old;
           came_from = length came_from.old;
           entries = length entries.old;
           links = length links.old;

@@ -1,4 +1,6 @@
 // One leg: the way between two candidates' roads, the pairs one after the other, and find_best_path.
+#![tactic(auto)]
+
 pub mod middle;
 pub mod tries;
 
@@ -18,7 +20,7 @@ use pair_plans::{PairTurn, Phase};
 use rules::{Best, Middle, PathResult, routes, same_edge};
 
 // What a leg finds: its best route, whose middle its search finds; no path; or the heap used up.
-#[derive(Drop)]
+#[derive(Clone, Copy)]
 pub enum LegEnd {
     Best(PathResult),
     NoPath,

@@ -17,7 +17,7 @@ use rules::Middle;
 use search::SearchEnd;
 
 // What is known without a search, or the bound of a search.
-#[derive(Drop)]
+#[derive(Clone, Copy)]
 pub enum Way {
     Known(SearchEnd),
     Within(f64),
@@ -75,7 +75,7 @@ pub fn middle(
     }
 }
 
-// The search of a middle once more, where it has roads: the marks lead back over them afterwards. It finds what it found, so it cannot be full (`found-again`).
+// The search of a middle once more, where it has roads: the marks lead back over them afterwards. It finds what it found, so it cannot be full (`found_again`).
 pub fn search_again(
     s: &[u8],
     c: Counts,

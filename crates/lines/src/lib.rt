@@ -1,10 +1,12 @@
 // decode_line and decode_point_along_line up to the ends: the legs one after the other, and what they leave in the lent areas.
+#![tactic(auto)]
+
 pub mod leg;
 pub mod runs;
 pub mod steps;
 
 // SegmentInfo: a leg's length, its DNP and its offsets.
-#[derive(Drop)]
+#[derive(Clone, Copy)]
 pub struct SegmentInfo {
     pub length_m: f64,
     pub expected_m: f64,
@@ -13,7 +15,7 @@ pub struct SegmentInfo {
 }
 
 // A leg's route: how many roads it wrote, how many coverages there are now, and its segment.
-#[derive(Drop)]
+#[derive(Clone, Copy)]
 pub struct WrittenLeg {
     pub written: usize,
     pub covered: usize,
@@ -21,7 +23,7 @@ pub struct WrittenLeg {
 }
 
 // How a leg ends: with a route, with none, or with the heap used up.
-#[derive(Drop)]
+#[derive(Clone, Copy)]
 pub enum LegWritten {
     Written(WrittenLeg),
     NoPath,
@@ -29,7 +31,7 @@ pub enum LegWritten {
 }
 
 // What the legs leave: how many roads they wrote, how many coverages there are, the sum of their lengths, the first and the last segment.
-#[derive(Drop)]
+#[derive(Clone, Copy)]
 pub struct FullPath {
     pub written: usize,
     pub covered: usize,
@@ -39,7 +41,7 @@ pub struct FullPath {
 }
 
 // How the legs end: all with a route, or with this one without a path, or with this one's heap used up.
-#[derive(Drop)]
+#[derive(Clone, Copy)]
 pub enum LegsEnd {
     Done,
     NoPath(usize),
@@ -47,7 +49,7 @@ pub enum LegsEnd {
 }
 
 // The legs so far: the next one, how they end, and what they leave.
-#[derive(Drop)]
+#[derive(Clone, Copy)]
 pub struct Legs {
     pub next: usize,
     pub end: LegsEnd,

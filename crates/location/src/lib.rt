@@ -1,4 +1,6 @@
 // One reference: its kind, its points and its legs, up to the walks at the ends.
+#![tactic(auto)]
+
 ghost use Rattle.std.specs.Prelude.{List, ℕ, ◌<◌, Float};
 ghost use Rattle.model.specs.declared.Counts.{Counts};
 ghost use Rattle.model.specs.Judge.{WellFormed};
@@ -18,14 +20,14 @@ use model::{Counts, POINT_ALONG_LINE};
 use sheet::points;
 
 // How a reference ends before the walks at its ends: refused with its number, A and B, or with a path.
-#[derive(Drop)]
+#[derive(Clone, Copy)]
 pub enum Outcome {
     Refused(usize, usize, usize),
     Legs(FullPath),
 }
 
 // What comes before the legs: a refusal's number and A, or the legs, which are summed for a line.
-#[derive(Drop)]
+#[derive(Clone, Copy)]
 pub enum Admission {
     Refused(usize, usize),
     Legs(bool),

@@ -67,11 +67,11 @@ class_projection frc fow = record {
 abbrev pub class_1 : Point
 class_1 = record { dnp = nat 50; bearing = 90; frc = 1; fow = 3; limit = 3 }
 
--- a one_way road between two nodes
+-- a one-way road between two nodes
 abbrev pub one_way : ℕ → ℕ → ℕ → Road
 one_way number source target = record { number = number; id = 700; length_m = nat 100; source = source; target = target; frc = 3; fow = 3; access = false }
 
--- node 2 fed by two one_way roads, none out
+-- node 2 fed by two one-way roads, none out
 abbrev pub fed : Sheet
 fed = record {
   kind = 1;

@@ -1,7 +1,8 @@
 // The records that the definition in specs/ and the code above it share. The definition itself is specs/, read in the order of specs/Lib.antt.
+#![tactic(auto)]
 
 // The header's counts: kind of the reference, points P, nodes N, roads E, measured rows M, goal rows G.
-#[derive(Drop)]
+#[derive(Clone, Copy)]
 pub struct Counts {
     pub kind: usize,
     pub p: usize,
@@ -12,21 +13,21 @@ pub struct Counts {
 }
 
 // What a record's check finds: every field good, or where the first bad one begins.
-#[derive(Drop)]
+#[derive(Clone, Copy)]
 pub enum Verdict {
     Good,
     Bad(usize),
 }
 
 // What refusals 1 to 5 say of a byte sequence: well-formed, or refused with its number and place A.
-#[derive(Drop)]
+#[derive(Clone, Copy)]
 pub enum Judged {
     Fine,
     Refused(usize, usize),
 }
 
 // CandidateConfig and DecoderConfig of the Rust, in the order of the sheet.
-#[derive(Drop)]
+#[derive(Clone, Copy)]
 pub struct Settings {
     pub search_radius_m: f64,
     pub max_bearing_diff: f64,
@@ -47,7 +48,7 @@ pub struct Settings {
 }
 
 // A location reference point. `limit` is the LFRCNP, 255 where there is no path entry.
-#[derive(Drop)]
+#[derive(Clone, Copy)]
 pub struct Point {
     pub dnp: f64,
     pub bearing: u16,
@@ -57,7 +58,7 @@ pub struct Point {
 }
 
 // A measured row: the projection of a point onto a road.
-#[derive(Drop)]
+#[derive(Clone, Copy)]
 pub struct Row {
     pub road: usize,
     pub distance_m: f64,
@@ -67,7 +68,7 @@ pub struct Row {
 }
 
 // A road with its number. Roads are compared by number, never by id.
-#[derive(Drop)]
+#[derive(Clone, Copy)]
 pub struct Road {
     pub number: usize,
     pub id: u64,
@@ -80,7 +81,7 @@ pub struct Road {
 }
 
 // What binds the roads of a leg: the raised class limit, 255 for none, and the metres that a slip road or an access road costs beside its length.
-#[derive(Drop)]
+#[derive(Clone, Copy)]
 pub struct AStarConstraints {
     pub max_frc: u8,
     pub slip_road_cost_penalty: f64,
@@ -88,7 +89,7 @@ pub struct AStarConstraints {
 }
 
 // What a leg accepts: its DNP, the least and the greatest length, how far its searches go, and what binds its roads.
-#[derive(Drop)]
+#[derive(Clone, Copy)]
 pub struct Limits {
     pub dnp: f64,
     pub min_distance: f64,
@@ -98,7 +99,7 @@ pub struct Limits {
 }
 
 // A neighbour of a node, with the roads in from it and out to it.
-#[derive(Drop)]
+#[derive(Clone, Copy)]
 pub struct Neighbour {
     pub node: usize,
     pub ins: usize,

@@ -1,4 +1,6 @@
 // The pairs of a leg in the order of their sums, one at a time. The candidates are sorted by score, so the next pair is one of the heads: of each start the first end that is not taken.
+#![tactic(auto)]
+
 ghost use Rattle.std.specs.Prelude.{◌≡◌, List, ◌∷◌, ℕ, ◌<◌, ◌≤◌, length, take, get_or};
 ghost use Rattle.model.specs.Candidates.{Candidate};
 ghost use Rattle.model.specs.Lists.{sort};
@@ -7,7 +9,7 @@ ghost use Rattle.candidates.specs.Found.{no_candidate};
 ghost use Rattle.pairs.specs.Left.{left, ScoresOf, Least};
 
 // A pair by its start and its end.
-#[derive(Drop)]
+#[derive(Clone, Copy)]
 pub struct Next {
     pub start: usize,
     pub end: usize,

@@ -1,4 +1,4 @@
--- Four roads, each one_way, by their numbers:
+-- Four roads, each one-way, by their numbers:
 --
 --     0 --0--> 1 --1--> 2 --3--> 0       and road 2, a loop at 2
 --

@@ -10,7 +10,7 @@ use model::{Counts, Neighbour};
 use sheet::roads;
 
 // The neighbours of a node that are met so far, or that there is a choice.
-#[derive(Drop)]
+#[derive(Clone, Copy)]
 enum Neighbours {
     Nobody,
     One(Neighbour),
@@ -19,14 +19,14 @@ enum Neighbours {
 }
 
 // Whether a node is valid, and how many roads the test read.
-#[derive(Drop)]
+#[derive(Clone, Copy)]
 pub struct Tested {
     pub valid: bool,
     pub read: usize,
 }
 
 // The road that a node forces, by its number, or none.
-#[derive(Drop)]
+#[derive(Clone, Copy)]
 pub enum Forced {
     Way(usize),
     Free,

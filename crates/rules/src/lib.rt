@@ -1,4 +1,6 @@
 // The rules of one leg by value: what it accepts, the lengths and scores of its paths, and the best path on one road.
+#![tactic(auto)]
+
 use model::Road;
 
 pub mod floats;
@@ -8,7 +10,7 @@ pub mod routes;
 pub mod same_edge;
 
 // A terminal road of a path, if it is kept, with the metres that are covered of it.
-#[derive(Drop)]
+#[derive(Clone, Copy)]
 pub struct TerminalEdge {
     pub kept: bool,
     pub road: Road,
@@ -16,7 +18,7 @@ pub struct TerminalEdge {
 }
 
 // The roads between the terminal ones: what a search from `start` to `goal` within `bound` metres finds, `count` of them.
-#[derive(Drop)]
+#[derive(Clone, Copy)]
 pub struct Middle {
     pub start: usize,
     pub goal: usize,
@@ -25,7 +27,7 @@ pub struct Middle {
 }
 
 // A path: its length and offsets, the first road, the roads between, and the last road.
-#[derive(Drop)]
+#[derive(Clone, Copy)]
 pub struct PathResult {
     pub total_length: f64,
     pub start_offset_m: f64,
@@ -36,7 +38,7 @@ pub struct PathResult {
 }
 
 // The best path so far, if there is one, with its score.
-#[derive(Drop)]
+#[derive(Clone, Copy)]
 pub struct Best {
     pub found: bool,
     pub score: f64,

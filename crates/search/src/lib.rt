@@ -1,4 +1,6 @@
 // The bounded A* search over a well-formed sheet.
+#![tactic(auto)]
+
 mod begin;
 mod costs;
 mod offers;
@@ -20,7 +22,7 @@ use model::{AStarConstraints, Counts};
 use sheet::distances;
 
 // What a search is asked: the way from `start` to `goal`, no path longer than `max_cost` metres, under the constraints of its leg.
-#[derive(Drop)]
+#[derive(Clone, Copy)]
 pub struct Query {
     pub start: usize,
     pub goal: usize,
@@ -29,7 +31,7 @@ pub struct Query {
 }
 
 // How a search ends: with the real cost and the number of roads, with no way, or with no slot left for an entry.
-#[derive(Drop)]
+#[derive(Clone, Copy)]
 pub enum SearchEnd {
     Found(f64, usize),
     Nothing,
@@ -37,7 +39,7 @@ pub enum SearchEnd {
 }
 
 // The end of a search, and how many heap entries it made.
-#[derive(Drop)]
+#[derive(Clone, Copy)]
 pub struct Searched {
     pub end: SearchEnd,
     pub entries: usize,
@@ -68,7 +70,7 @@ fn search_from_start(
 }
 
 // The bounded A* search from `query.start` to `query.goal`, with a heap of `slots` entries. Where it is found, the roads lead back from the goal by `came_from`.
-// The penalties are amounts, so that labels never fall along a way and the walk back needs no test for its end: those of the settings are (`slip-amount`, `access-amount`).
+// The penalties are amounts, so that labels never fall along a way and the walk back needs no test for its end: those of the settings are (`slip_amount`, `access_amount`).
 pub fn bounded_astar(
     s: &[u8],
     c: Counts,

@@ -13,7 +13,7 @@ pub const UNREACHED: usize = 4294967295;
 pub const START_MARK: usize = 4294967294;
 
 // Nothing better than the label that is there, or a real and a penalised cost.
-#[derive(Drop)]
+#[derive(Clone, Copy)]
 pub enum Offer {
     Keep,
     Better(f64, f64),

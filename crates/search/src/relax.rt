@@ -14,7 +14,7 @@ use sheet::distances::GoalRow;
 use sheet::roads;
 
 // The heap's length and the number of entries made after a step, or no slot left.
-#[derive(Drop)]
+#[derive(Clone, Copy)]
 pub enum Relaxed {
     Done(usize, usize),
     Full,
@@ -79,7 +79,7 @@ fn relax(
     r: Road,
 ) -> Relaxed
     requires query_ready { QueryReady s.now c query row × Proper c.n c.e slots (columns c.n slots labels.old came_from.old entries.old links.old len made) }
-    requires u_lt_n { (u < c.n) × (get_or came_from.old u 0 ≢ unreached) × (r.target < c.n) × (r.number < c.e) × (road_at (sheet_of s.now c) r.number ≡ r) }
+    requires labelled { (u < c.n) × (get_or came_from.old u 0 ≢ unreached) × (r.target < c.n) × (r.number < c.e) × (road_at (sheet_of s.now c) r.number ≡ r) }
     ensures kept { AfterRelaxing c.n c.e slots (columns c.n slots labels.old came_from.old entries.old links.old len made)
         result (columns c.n slots labels.new came_from.new entries.new links.new) }
     ensures state { state_after result (λ l m. state_at s.now c (columns c.n slots labels.new came_from.new entries.new links.new l m))
@@ -122,7 +122,7 @@ pub fn relax_all(
     g: f64,
 ) -> Relaxed
     requires query_ready { QueryReady s.now c query row × Proper c.n c.e slots (columns c.n slots labels.old came_from.old entries.old links.old first_len first_made) }
-    requires u_lt_n { (u < c.n) × (get_or came_from.old u 0 ≢ unreached) }
+    requires labelled { (u < c.n) × (get_or came_from.old u 0 ≢ unreached) }
     ensures kept { AfterRelaxing c.n c.e slots (columns c.n slots labels.old came_from.old entries.old links.old first_len first_made)
         result (columns c.n slots labels.new came_from.new entries.new links.new) }
     ensures state { state_after result (λ l m. state_at s.now c (columns c.n slots labels.new came_from.new entries.new links.new l m))

@@ -11,7 +11,7 @@ use model::Counts;
 use sheet::distances::GoalRow;
 
 // Whether the search still looks for the goal, has found it, or has no slot left. One that looks with an empty heap has no way.
-#[derive(Drop)]
+#[derive(Clone, Copy)]
 pub enum Progress {
     Looking,
     Found,
@@ -19,7 +19,7 @@ pub enum Progress {
 }
 
 // The progress, the heap's length and the number of entries made; the length is 0 where the search has ended.
-#[derive(Drop)]
+#[derive(Clone, Copy)]
 pub struct SearchTurn {
     pub progress: Progress,
     pub len: usize,

@@ -11,7 +11,7 @@ use crate::{layout, numbers};
 use model::Counts;
 
 // Which goal row is a node's.
-#[derive(Drop)]
+#[derive(Clone, Copy)]
 pub enum GoalRow {
     At(usize),
     Missing,

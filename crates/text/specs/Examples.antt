@@ -1,12 +1,12 @@
 -- Texts of the marked set's S1 and S2, of a path of three roads with unlike ends, and the words of the scope. proofs/ExamplesProof.antt has the proofs, by computing.
-use Rattle.std.specs.Prelude.{ℕ, ◌≡◌, List, [], ◌∷◌, Float}
+use Rattle.std.specs.Prelude.{ℕ, ◌≡◌, List, [], ◌∷◌}
 use Rattle.std.specs.Float.{nan}
-use Rattle.model.specs.Numbers.{bits, infinity}
-use Rattle.model.specs.Call.{Decoded, decode, refused}
+use Rattle.model.specs.Numbers.{infinity}
+use Rattle.model.specs.Call.{decode, refused}
 use Rattle.model.specs.Build.{point, row}
 use Rattle.model.specs.Marked.{lent, two_points, last_point}
 use Rattle.model.specs.Edges.{three_roads, to_node}
-use Rattle.text.specs.Text.{ascii, decimal, bits_of, text_of, large}
+use Rattle.text.specs.Text.{ascii, bits_of, text_of, large}
 
 -- from 25 of the first road to 40 of the last
 abbrev pub over_three_unlike : List ℕ

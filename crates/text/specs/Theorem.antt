@@ -1,5 +1,5 @@
 -- How long a text can be. proofs/Lengths.antt has the proof.
-use Rattle.std.specs.Prelude.{ℕ, ◌+◌, ◌*◌, ◌≤◌, length}
+use Rattle.std.specs.Prelude.{◌+◌, ◌*◌, ◌≤◌, length}
 use Rattle.model.specs.Call.{Lists, Answer}
 use Rattle.text.specs.Text.{text}
 

@@ -1,4 +1,6 @@
 // The list program's text of an answer, written into a lent buffer.
+#![tactic(auto)]
+
 mod parts;
 mod sizes;
 
@@ -12,7 +14,7 @@ use crate::sizes::text_fits;
 use answers::Answer;
 
 // What writing a text answers: how many bytes it has, or that the buffer is too short for it.
-#[derive(Drop)]
+#[derive(Clone, Copy)]
 pub enum Written {
     Bytes(usize),
     Short,
