@@ -7,9 +7,10 @@ use crate::call::call;
 use crate::compare::{answer_agrees, lists_agree};
 use crate::record::{Expected, expected_at, size_at, sizes_fit};
 use fields::count_at;
+use std::io;
 
 // The cases that were run, and how many of them differ.
-#[derive(Drop)]
+#[derive(Clone, Copy)]
 pub struct Tally {
     pub replayed: usize,
     pub differ: usize,
@@ -72,18 +73,12 @@ fn agrees(file: &[u8], at: usize) -> bool
     )
 }
 
-// 0 where the case with number i agrees; else 1, and a line that says so.
+// 0 where the case with number i agrees, else 1.
 fn difference(file: &[u8], i: usize) -> usize
     requires { 4 + 52 * i + 52 ≤ length file.now }
     ensures { result ≤ 1 }
 {
-    if agrees(file, 4 + 52 * i) {
-        return 0;
-    }
-    io::write_all(1, b"case ");
-    io::print_decimal(1, i as u64);
-    io::write_all(1, b" differs\n");
-    1
+    if agrees(file, 4 + 52 * i) { 0 } else { 1 }
 }
 
 // 1 for a list without cases, which shows nothing.
@@ -93,16 +88,20 @@ fn missing(cases: usize) -> usize
     if cases == 0 { 1 } else { 0 }
 }
 
-// Runs every case.
-pub fn replay(file: &[u8]) -> Tally {
+// Runs every case, and prints a line for each that differs.
+pub fn replay(rt: &impl Print, file: &[u8]) -> io::Result<Tally> {
     let replayed = listed(file);
     let mut differ = missing(replayed);
     let mut i = 0;
     while i < replayed {
-        differ += difference(file, i);
+        let one = difference(file, i);
+        if one == 1 {
+            println!(rt; "case {i} differs")?;
+        }
+        differ += one;
         i += 1;
     }
-    Tally { replayed, differ }
+    Ok(Tally { replayed, differ })
 }
 
 // 1 where the case with number i differs from what it expects.

@@ -7,7 +7,7 @@ use crate::areas::MOST;
 use fields::{count_at, u16_at};
 
 // What a case expects: a refusal's number, A and B, or number 0; where the answer stands and how many roads its path has; 1 where the lists stay untouched.
-#[derive(Drop)]
+#[derive(Clone, Copy)]
 pub struct Expected {
     pub number: usize,
     pub a: usize,

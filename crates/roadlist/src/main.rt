@@ -1,9 +1,13 @@
 // The list program: reads a sheet from standard input and prints the text of its answer, from one buffer.
-ghost use Rattle.std.specs.Prelude.{◌≡◌, ◌≤◌, length};
+#![tactic(auto)]
+
+ghost use Rattle.std.specs.Prelude.{◌≡◌, ◌≤◌, length, IfOk};
 ghost use Rattle.model.specs.Call.{decode};
 ghost use Rattle.text.specs.Text.{text_of};
 ghost use Rattle.roadlist.specs.Listing.{areas, listing, Listed, size_of};
 
+use std::io;
+use std::io::{Read, Write};
 use text::Written;
 
 // The text of one call, with the areas that this program lends.
@@ -57,11 +61,26 @@ fn list(sheet: &[u8], out: &mut [u8]) -> usize
     }
 }
 
+// Reads until `buf` is full or the input ends, and answers how many bytes came: they stand at its front.
+fn read_full<R: Read>(from: &mut R, buf: &mut [u8]) -> io::Result<usize>
+    ensures { IfOk result (λ n. n ≤ length buf.new) }
+{
+    let mut done = 0;
+    while done < buf.len() {
+        let n = from.read(&mut buf[done..])?;
+        if n == 0 {
+            break;
+        }
+        done += n;
+    }
+    Ok(done)
+}
+
 // 48 KiB are read and one byte more, which shows a larger sheet. The longest text has 11,182 bytes.
-fn main() {
+fn main(rt: HostRuntime) -> io::Result<()> {
     let mut sheet = [0u8; 49153];
     let mut out = [0u8; 11264];
-    let n = io::read_full(0, &mut sheet);
+    let n = read_full(&mut rt.stdin(), &mut sheet)?;
     let size = list(&sheet[..n], &mut out);
-    io::write_all(1, &out[..size]);
+    rt.stdout().write_all(&out[..size])
 }
