@@ -1,5 +1,5 @@
 -- Refusal 6: the number of entries that it asks for fits a usize, and its five tests one after another are the definition's.
-use Prim.Native.Nat.{ℕ, ◌+◌, ◌*◌, ◌≤◌}
+use Prim.Native.Nat.{ℕ, ◌*◌, ◌≤◌}
 use mathlib.Core.Path.{◌≡◌}
 use mathlib.Core.Bool.{Bool, true, ◌&&◌}
 use native.Mathlib.Nat.{mul-le-mul}

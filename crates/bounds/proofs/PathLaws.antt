@@ -17,7 +17,7 @@ use Rattle.model.specs.Lists.{In, last, maybe}
 use Rattle.model.specs.Sheet.{MeasuredPoint, Sheet, road_at, leaving_roads}
 use Rattle.model.specs.View.{Leg, permits, projection_of, projected_point, leg_of, leg_starts, limits_of, view}
 use Rattle.model.specs.Candidates.{Candidate, fraction, candidate_of, find_candidates}
-use Rattle.model.specs.Search.{Query, SearchEnd, found, none_found, full, run, search_within, bounded_astar}
+use Rattle.model.specs.Search.{Query, SearchEnd, found, none_found, full, bounded_astar}
 use Rattle.model.specs.Legs.{EdgeCoverage, PathResult, Pair, fits_same_edge, same_edge_path, path_cost, path_over, find_best_path}
 use Rattle.model.specs.Decode.{query_of, middle_search, same_number, append, FullPath, outcome, matched}
 use Rattle.model.proofs.Members.{either, in_getD, in_keep, Every, every_append, length_front}

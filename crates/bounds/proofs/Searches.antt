@@ -15,7 +15,7 @@ use Rattle.model.specs.declared.Judged.{Judged}
 use Rattle.model.specs.declared.Judged.TheVariants.{Fine, Refused}
 use Rattle.model.specs.Numbers.{◌≤ᶠ◌, f0}
 use Rattle.model.specs.Lists.{In, maybe, sort}
-use Rattle.model.specs.Layout.{point_along_line, counts_of}
+use Rattle.model.specs.Layout.{point_along_line}
 use Rattle.model.specs.Judge.{judged}
 use Rattle.model.specs.Sheet.{MeasuredPoint, Sheet, leaving_roads, sheet_of, parsed}
 use Rattle.model.specs.View.{Leg, is_slip, permits, penalty, limits_of, projected_point, leg_of, leg_starts, view}

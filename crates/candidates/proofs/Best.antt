@@ -1,15 +1,15 @@
 -- The best of a point's rows, kept in an array by insertion: they are the first of the definition's sorted candidates.
 use Prim.Native.Nat.{ℕ, zero, suc, ◌+◌, ◌-◌, ◌≤◌, ◌<◌, min}
-use mathlib.Core.Path.{◌≡◌, refl, sym, ap, ◌∙◌, subst}
+use mathlib.Core.Path.{◌≡◌, refl, sym, ap, ◌∙◌}
 use mathlib.Core.Logic.{◌⊎◌, inl, inr, ⊎_elim}
 use mathlib.Core.Bool.{Bool, true, false, ◌||◌}
 use mathlib.Core.Option.{Option, none, some}
 use mathlib.Core.List.Memᴰ
-use mathlib.Core.List.{List, [], ◌∷◌, ◌++◌, map}
+use mathlib.Core.List.{List, [], ◌∷◌, map}
 use native.Mathlib.Numerals.{add-one}
 use native.Mathlib.Nat.{le_refl, le_of_suc-le-suc}
 use native.Mathlib.Omega.{arith}
-use lib.ListN.{length, take, drop, get_or, length-map, length-take}
+use lib.ListN.{length, take, drop, get_or, length-take}
 use lib.Dec.{ltb}
 use lib.Ieee.{Float, lt}
 use borrow.Author.Tests.{lt-ltb, le-ltb}
@@ -20,7 +20,7 @@ use Rattle.model.specs.declared.Road.{Road}
 use Rattle.model.specs.Lists.{In, insert}
 use Rattle.model.specs.Judge.{WellFormed, row_count, rows_before, row_road}
 use Rattle.model.specs.Sheet.{Sheet, sheet_of}
-use Rattle.model.specs.Candidates.{Candidate, candidate_of, candidate, better, passes}
+use Rattle.model.specs.Candidates.{Candidate, candidate_of, candidate, better}
 use Rattle.model.proofs.Members.{here, get_d_map, map_take, in_getD, in_take, Every, every_none}
 use Rattle.model.proofs.RowSums.{rows_within}
 use Rattle.bounds.proofs.Rank.{rank_le}

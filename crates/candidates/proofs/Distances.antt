@@ -1,5 +1,5 @@
 -- The least distance of a list of candidates by ranks, where the order has no part.
-use Prim.Native.Nat.{ℕ, zero, suc, ◌+◌, ◌-◌, ◌≤◌, ◌<◌, min}
+use Prim.Native.Nat.{ℕ, zero, suc, ◌+◌, ◌≤◌, ◌<◌, min}
 use mathlib.Core.Path.{◌≡◌, refl, sym, ap, ◌∙◌, subst}
 use mathlib.Core.Bool.{Bool, true, false, cond}
 use mathlib.Core.Option.{Option, none, some}
@@ -7,13 +7,12 @@ use mathlib.Core.List.Memᴰ
 use mathlib.Core.List.{List, [], ◌∷◌}
 use native.Mathlib.Omega.{arith}
 use lib.Dec.{T}
-use lib.Ieee.{Float, lt, eq, le}
+use lib.Ieee.{Float, lt}
 use borrow.Author.Tests.{ltb-true, ltb-false, eqb-true, eq-eqb}
 use Rattle.model.specs.declared.Counts.{Counts}
 use Rattle.model.specs.Numbers.{fmin, infinity}
 use Rattle.model.specs.Lists.{insert, fold}
 use Rattle.model.specs.Judge.{WellFormed, row_count, rows_before}
-use Rattle.model.specs.Sheet.{sheet_of}
 use Rattle.model.specs.Candidates.{Candidate, candidate_of, candidate, better, nearest}
 use Rattle.model.proofs.Members.{here, Every, every_none}
 use Rattle.model.proofs.RowSums.{rows_within}

@@ -1,13 +1,11 @@
 -- The candidates that a list by value holds, one by one.
 use Prim.Native.Nat.{ℕ, ◌≤◌, ◌<◌}
-use mathlib.Core.Path.{◌≡◌, sym, ap, ◌∙◌}
-use mathlib.Core.List.{List, map}
+use mathlib.Core.Path.{◌≡◌, ap, ◌∙◌}
 use native.Mathlib.Omega.{arith}
 use lib.ListN.{length, take, get_or, length-map}
 use lib.Seq.{get_or-take, length-take-le}
 use Rattle.model.specs.Sheet.{Sheet}
 use Rattle.model.proofs.Members.{get_d_map}
-use Rattle.candidates.specs.declared.candidate.Candidate as code
 use Rattle.candidates.specs.declared.find.Candidates.{Candidates}
 use Rattle.candidates.specs.Found.{no_candidate, no_item, at_road, item_at, held}
 

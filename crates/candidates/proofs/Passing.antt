@@ -4,8 +4,9 @@ use mathlib.Core.Path.{◌≡◌, refl}
 use mathlib.Core.Bool.{Bool, true, false, ◌&&◌, not}
 use lib.Dec.{ltb}
 use lib.Ieee.{lt}
-use borrow.Author.Tests.{lt-ltb, le-ltb}
+use borrow.Author.Tests.{lt-ltb, le-ltb, eq-eqb, ne_eqb}
 use Rattle.model.specs.declared.Settings.{Settings}
+use Rattle.model.specs.declared.Road.{Road}
 use Rattle.model.specs.View.{is_slip}
 use Rattle.model.specs.Candidates.{Candidate, passes}
 
@@ -16,6 +17,13 @@ off_class c x = ltb c.frc_tolerance x.frc_diff && not (is_slip x.road)
 and_false : (a : Bool) → (a && false) ≡ false
 and_false true = refl
 and_false false = refl
+
+-- the test of the form of way, as the code makes it
+pub no_slip : (r : Road) → (r.fow ≡ 6 → ⊥) → not (is_slip r) ≡ true
+no_slip r h = rw (ne_eqb r.fow 6 h)
+
+pub a_slip : (r : Road) → r.fow ≡ 6 → not (is_slip r) ≡ false
+a_slip r e = rw (eq-eqb r.fow 6 e)
 
 module _ (c : Settings) (x : Candidate) where
   pub off : c.frc_tolerance < x.frc_diff → not (is_slip x.road) ≡ true → off_class c x ≡ true

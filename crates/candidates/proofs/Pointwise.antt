@@ -1,11 +1,11 @@
 -- The two loops over the points: whether each has a candidate, and which is the nearest of all.
-use Prim.Native.Nat.{ℕ, zero, suc, ◌+◌, ◌-◌, ◌≤◌, ◌<◌}
+use Prim.Native.Nat.{ℕ, suc, ◌+◌, ◌-◌, ◌≤◌, ◌<◌}
 use mathlib.Core.Path.{◌≡◌, refl, sym, ap, ◌∙◌, subst}
 use mathlib.Core.Bool.{Bool, true, false, cond, not}
-use mathlib.Core.Option.{Option, none, some}
+use mathlib.Core.Option.{none, some}
 use mathlib.Core.List.Memᴰ
 use mathlib.Core.List.{List, [], ◌∷◌, map}
-use native.Mathlib.Nat.{le_refl, zero-lt-suc}
+use native.Mathlib.Nat.{le_refl}
 use native.Mathlib.Numerals.{add-one}
 use native.Mathlib.Omega.{arith}
 use lib.Dec.{T}
@@ -15,18 +15,17 @@ use lib.Seq.{take_all}
 use Rattle.model.specs.declared.Counts.{Counts}
 use Rattle.model.specs.declared.Settings.{Settings}
 use Rattle.model.specs.Numbers.{infinity}
-use Rattle.model.specs.Lists.{In, maybe, tabulate}
+use Rattle.model.specs.Lists.{maybe, tabulate}
 use Rattle.model.specs.Judge.{WellFormed, row_count, rows_before}
 use Rattle.model.specs.Sheet.{sheet_of}
 use Rattle.model.specs.Candidates.{Candidate, nearest, Closest, closest, closest_point}
 use Rattle.model.specs.Decode.{first_empty}
-use Rattle.model.proofs.Members.{here, in_take, in_tab, length_tab, Every, every_cons, every_none}
+use Rattle.model.proofs.Members.{here, in_take, in_tab, length_tab, Every}
 use Rattle.model.proofs.RowSums.{before_none, before_next}
 use Rattle.sheet.proofs.Parts.{map_tab}
 use Rattle.bounds.specs.Amounts.{Amount}
 use Rattle.bounds.proofs.Rank.{rank, le_rank, rank_le, nle_rank}
 use Rattle.bounds.proofs.AmountLaws.{finite_amount}
-use Rattle.candidates.specs.declared.closest.Points.{Points}
 use Rattle.candidates.specs.declared.closest.Points.TheVariants.{Fine, NoCandidate}
 use Rattle.candidates.specs.Found.{candidates_at}
 use Rattle.candidates.specs.Points.{candidates_of, close_enough, judge_points, points_of}
@@ -35,7 +34,7 @@ use Rattle.candidates.proofs.Ranked.{lt_is}
 use Rattle.candidates.proofs.SheetFacts.{most_finite}
 use Rattle.candidates.proofs.Gathered.{cut_is}
 use Rattle.candidates.proofs.Distances.{alike, alike_rank, infinity_amount, finite_below, less, not_less, Distant, nearest_amount, sorted_distant}
-use Rattle.candidates.proofs.Rules.{candidates_are, no_points}
+use Rattle.candidates.proofs.Rules.{candidates_are}
 
 front_of : {A : Type 0} (f : ℕ → A) (n i : ℕ) → i < n → tabulate (n - i) i f ≡ f i ∷ tabulate (n - (i + 1)) (i + 1) f
 unfolding tabulate

@@ -1,13 +1,13 @@
 -- The least distance item by item, and the two rules of the points point by point.
-use Prim.Native.Nat.{ℕ, zero, suc, ◌+◌, ◌-◌, ◌≤◌, ◌<◌}
-use mathlib.Core.Path.{◌≡◌, refl, sym, ap, ◌∙◌, subst}
+use Prim.Native.Nat.{ℕ, zero, suc, ◌+◌, ◌≤◌, ◌<◌}
+use mathlib.Core.Path.{◌≡◌, refl, sym, ap, ◌∙◌}
 use mathlib.Core.Bool.{Bool, true, false, cond}
 use mathlib.Core.Option.{Option, none, some}
 use mathlib.Core.List.{List, [], ◌∷◌, map}
 use native.Mathlib.Nat.{add-zero, zero-lt-suc}
 use native.Mathlib.Numerals.{add-one}
 use native.Mathlib.Omega.{arith}
-use lib.ListN.{length, take, get_or}
+use lib.ListN.{take, get_or}
 use lib.Seq.{take_all, take-take}
 use lib.Ieee.{Float, lt, le}
 use Rattle.model.specs.declared.Counts.{Counts}
@@ -17,12 +17,11 @@ use Rattle.model.specs.Layout.{points_bytes, rows_bytes}
 use Rattle.model.specs.Sheet.{MeasuredPoint, Sheet, measured_point, sheet_of}
 use Rattle.model.specs.View.{View, view, projected_point}
 use Rattle.model.specs.Search.{Search}
-use Rattle.model.specs.Candidates.{Candidate, find_candidates, nearest, Closest, closest, closest_point}
+use Rattle.model.specs.Candidates.{Candidate, find_candidates, nearest, closest_point}
 use Rattle.model.specs.Decode.{refused, Outcome, first_empty, require_close_candidate, decode_legs, decode_points}
-use Rattle.model.proofs.Members.{length_tab, map_take}
+use Rattle.model.proofs.Members.{map_take}
 use Rattle.model.proofs.Parsed.{measured_point_is}
 use Rattle.sheet.proofs.Parts.{map_tab}
-use Rattle.candidates.specs.declared.closest.Points.{Points}
 use Rattle.candidates.specs.declared.closest.Points.TheVariants.{Fine, NoCandidate}
 use Rattle.candidates.specs.declared.closest.Seen.{Seen}
 use Rattle.candidates.specs.declared.closest.Away.{Away}

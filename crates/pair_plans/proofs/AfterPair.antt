@@ -11,8 +11,7 @@ use Rattle.model.specs.declared.Road.{Road}
 use Rattle.model.specs.declared.Limits.{Limits}
 use Rattle.model.specs.Search.{found, none_found, full}
 use Rattle.model.specs.Search as astar
-use Rattle.model.specs.Legs.{Pair, Scored, MiddleSearch, scored_over, improve, middle_of, after_search, after_pair, goes_on}
-use Rattle.rules.specs.declared.Middle.{Middle}
+use Rattle.model.specs.Legs.{Pair, MiddleSearch, scored_over, improve, middle_of, after_search, after_pair, goes_on}
 use Rattle.rules.specs.declared.Best.{Best}
 use Rattle.rules.specs.Code.{no_search, best_of}
 use Rattle.search.specs.declared.SearchEnd.{SearchEnd}

@@ -2,7 +2,6 @@
 use Prim.Native.Nat.{ℕ}
 use mathlib.Core.Path.{◌≡◌, ap, ◌∙◌}
 use Rattle.model.specs.declared.Limits.{Limits}
-use Rattle.model.specs.Search as astar
 use Rattle.model.specs.Legs.{Pair, MiddleSearch, pair_plan, middle_of, after_pair, try_pair}
 use Rattle.rules.specs.declared.Best.{Best}
 use Rattle.rules.specs.Code.{best_of}

@@ -1,5 +1,5 @@
 -- A record judged as a whole: what the code compares at once says that every field is good.
-use Rattle.std.proofs.Common.{◌≡◌, ℕ, ◌+◌, ◌<◌, ◌≤◌, true, false, T, List, ◌++◌, sym, subst, arith, lt-ltb, eq-eqb, le-leb}
+use Rattle.std.proofs.Common.{◌≡◌, ℕ, ◌+◌, ◌<◌, ◌≤◌, true, false, T, List, sym, subst, arith, lt-ltb, eq-eqb, le-leb}
 use Rattle.model.specs.declared.Verdict.TheVariants.{Good}
 use Rattle.model.specs.Bytes.{u8_at, u16_at, u32_at, u64_at}
 use Rattle.model.specs.Table.{need, check, check_then, fields_alike, most_f64, most_bearing}

@@ -5,12 +5,12 @@ use mathlib.Core.Logic.{inl, inr, ◌≢◌}
 use mathlib.Core.Option.{Option, none, some}
 use mathlib.Core.List.{List, [], ◌∷◌, ◌++◌, map, append-nil}
 use native.Mathlib.Omega.{arith}
-use lib.ListN.{length, get_or, set, take, drop, length-drop, length-append, length-map, take-append-drop}
+use lib.ListN.{length, get_or, set, take, drop, length-drop, length-append, length-map}
 use lib.Seq.{length-take-le, take-suc, append_snoc, set_at}
 use lib.Ieee.{Float, nan}
 use Rattle.model.specs.declared.Road.{Road}
 use Rattle.model.specs.Layout.{most_roads}
-use Rattle.model.specs.Search.{SearchEnd, found, Label, label_at, real_of, came_from, trace}
+use Rattle.model.specs.Search.{found, Label, label_at, real_of, came_from, trace}
 use Rattle.bounds.proofs.Choices.{below_or_not}
 use Rattle.bounds.proofs.Traces.{trace_ends, trace_goes}
 use Rattle.search.specs.declared.SearchEnd.TheVariants as S

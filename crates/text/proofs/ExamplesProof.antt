@@ -1,6 +1,5 @@
 -- The examples, by computing.
 use mathlib.Core.Path.{refl}
-use lib.Ieee.{eq, to_bits}
 use Rattle.model.proofs.Computes.{computes}
 use Rattle.text.specs.Text.{ascii, decimal_within, bits_of, spaced, line, road_lines, path_line, last_lines, refusal_line, text, large}
 use Rattle.text.specs.Examples.{Examples}

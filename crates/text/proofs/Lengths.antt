@@ -5,7 +5,7 @@ use mathlib.Core.Path.{◌≡◌}
 use mathlib.Core.List.{List, [], ◌∷◌, ◌++◌}
 use lib.ListN.{length, length-append}
 use lib.Ieee.{Float}
-use Rattle.model.specs.Call.{Lists, Match, Answer, refused, matched}
+use Rattle.model.specs.Call.{Match, refused, matched}
 use Rattle.text.specs.Text.{ascii, decimal, bits_of, spaced, line, road_line, road_lines, path_line, last_lines, refusal_line, text}
 use Rattle.text.specs.Theorem.{TextTheorem}
 use Rattle.text.proofs.Digits.{decimal_length, bits_length}

@@ -1,0 +1,4 @@
+use Rattle.ranges.proofs.need.count.Goals as goal
+
+pub returns : goal.returns
+returns c = cc

@@ -1,0 +1,4 @@
+use Rattle.ranges.proofs.need.float.Goals as goal
+
+pub returns : goal.returns
+returns c = cc
