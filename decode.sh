@@ -11,8 +11,8 @@ usage() {
 usage: decode.sh [FILE]
 
 Decodes a sheet and prints its answer: FILE, or - for standard input, or sheets/s1.sheet.
-The list program is built where it is missing or older than crates/. A fresh clone proves the decoder for that, about
-ten minutes on two cores; what is proved is told on standard error. The toolchain's rt must be on the path.
+The list program is built where it is missing or older than crates/. A fresh clone proves the decoder for that, ten
+minutes or more; what is proved is told on standard error. The toolchain's rt must be on the path.
 A sheet above 48 KiB is decoded by the host in C (examples/desk.sh) or in Rust (rust/examples/list.rs).
 
 Ends with 0 for a path, 1 for a refusal, 2 for a file that cannot be read or a build that fails.
@@ -55,8 +55,8 @@ if [ "$bytes" -gt 49152 ]; then
     text=$(large "$bytes")
     status=$?
 else
-    build target/bin/roadlist check roadlist
-    text=$("$root/target/bin/roadlist" <"$sheet")
+    build roadlist run roadlist
+    text=$("$root/crates/roadlist/out/roadlist" <"$sheet")
     status=$?
     case $text in
     'refused 6 '* | 'refused 11 '*) say "the areas of the list program are small; examples/desk.sh lends larger ones" ;;

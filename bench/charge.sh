@@ -2,6 +2,7 @@
 # Builds the library and times a charge.
 set -e
 cd "$(dirname "$0")/.."
-rt staticlib hemokatu >/dev/null
-cc -O3 -o target/bench-charge bench/charge.c target/staticlib/libhemokatu.a -lm
+(cd crates/hemokatu && rt lib >/dev/null)
+mkdir -p target
+cc -O3 -o target/bench-charge bench/charge.c crates/hemokatu/out/libhemokatu.a -lm
 target/bench-charge

@@ -13,7 +13,7 @@ usage: desk.sh [--list] [FILE]
 Decodes a sheet and says the answer in words: FILE, or - for standard input, or sheets/s1.sheet.
 --list prints it as the list program does.
 HEMOKATU_LIB may name a folder that has libhemokatu.a, relative to where this is called. Else it is built where it is
-missing or older than crates/: a fresh clone proves the decoder for that, about ten minutes on two cores. Needs cc.
+missing or older than crates/: a fresh clone proves the decoder for that, ten minutes or more. Needs cc.
 
 Ends with 0 for a match, 1 for a refusal, 2 for a file that cannot be read or a build that fails.
 END

@@ -6,8 +6,8 @@
 set -e
 cd "$(dirname "$0")/.."
 mkdir -p target/fuzz
-[ -n "$HEMOKATU_LIB" ] || rt staticlib hemokatu >target/fuzz/staticlib.log 2>&1 || { cat target/fuzz/staticlib.log >&2; exit 2; }
-lib=${HEMOKATU_LIB:-target/staticlib}/libhemokatu.a
+[ -n "$HEMOKATU_LIB" ] || (cd crates/hemokatu && rt lib) >target/fuzz/lib.log 2>&1 || { cat target/fuzz/lib.log >&2; exit 2; }
+lib=${HEMOKATU_LIB:-crates/hemokatu/out}/libhemokatu.a
 parts="fuzz/fuzz.c fuzz/random.c fuzz/layout.c fuzz/sheets.c fuzz/damage.c fuzz/areas.c fuzz/check.c"
 flags="-std=c11 -Wall -Wextra -Werror -O2 -g -fsanitize=address,undefined -fno-sanitize-recover=all"
 

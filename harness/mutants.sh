@@ -10,7 +10,7 @@ cd "$(dirname "$0")" || exit 1
 ./same.sh || exit 1
 cases=${cases:-$(realpath ../crates/replay/data/changes.bin)}
 sheets=${SHEETS:-100000}
-export HEMOKATU_LIB="${HEMOKATU_LIB:-$(cd .. && pwd)/target/staticlib}"
+export HEMOKATU_LIB="${HEMOKATU_LIB:-$(cd .. && pwd)/crates/hemokatu/out}"
 target=$(mkdir -p "${CARGO_TARGET_DIR:-target}" && cd "${CARGO_TARGET_DIR:-target}" && pwd)
 cargo build --release --offline --quiet --package mutants || exit 1
 mutants=$target/release/mutants

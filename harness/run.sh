@@ -6,8 +6,8 @@ count=${1:?run.sh N [SEED]}
 seed=${2:-1}
 cd "$(dirname "$0")"
 ./same.sh
-[ -n "$HEMOKATU_LIB" ] || (cd .. && rt staticlib hemokatu)
-[ -n "$ROADLIST" ] || (cd .. && rt check roadlist)
+[ -n "$HEMOKATU_LIB" ] || (cd ../crates/hemokatu && rt lib)
+[ -n "$ROADLIST" ] || (cd ../crates/roadlist && rt run <stdin >/dev/null)
 cargo build --release --offline --quiet
 programs=${CARGO_TARGET_DIR:-target}/release
 for list in changes classes; do
@@ -23,4 +23,4 @@ cmp "$programs/wrong.bin" ../crates/replay/data/wrong.bin
 "$programs/compare" full $((count / 50)) "$seed"
 "$programs/compare" pairs $((count / 10)) "$seed"
 "$programs/charge" $((count * 100)) "$seed"
-"$programs/texts" "${ROADLIST:-../target/bin/roadlist}" 20000 "$seed"
+"$programs/texts" "${ROADLIST:-../crates/roadlist/out/roadlist}" 20000 "$seed"

@@ -5,7 +5,7 @@
 set -e
 cd "$(dirname "$0")"
 ./same.sh
-[ -n "$HEMOKATU_LIB" ] || (cd .. && rt staticlib hemokatu)
+[ -n "$HEMOKATU_LIB" ] || (cd ../crates/hemokatu && rt lib)
 cargo build --release --offline --quiet --package speed
 target=${CARGO_TARGET_DIR:-target}
 if [ "$1" != --count ]; then

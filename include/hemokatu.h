@@ -1,4 +1,4 @@
-/* The calls of libhemokatu.a, which `rt staticlib hemokatu` writes to target/staticlib. x86-64 Linux.
+/* The calls of libhemokatu.a, which `rt lib` in crates/hemokatu writes to out/ there. x86-64 Linux.
  *
  * A slice is passed as a pointer and its number of entries. The pointer is aligned for its entries and valid for all of
  * them, and no area overlaps another or the sheet; nothing checks that. Everything else is any value at all: what each

@@ -1,6 +1,6 @@
 //! Links libhemokatu.a: from the folder that HEMOKATU_LIB names, else from lib/ of a release folder, else from
-//! target/staticlib of the repository. There `rt staticlib hemokatu` writes it; that is run if the library is missing or
-//! older than a file of crates/.
+//! crates/hemokatu/out of the repository. There `rt lib` in crates/hemokatu writes it; that is run if the library is
+//! missing or older than a file of crates/ (but for what rt keeps in out/).
 //!
 //! A relative HEMOKATU_LIB is taken from the workspace's folder, the one with the Cargo.lock of the build. An empty one
 //! counts as unset.
@@ -75,11 +75,14 @@ fn of_release() -> Option<PathBuf> {
 
 fn of_repository() -> PathBuf {
     let root = root();
-    let sources = [root.join("crates"), root.join("crates.txt")];
+    let mut sources = vec![root.join("crates.txt")];
+    for folder in entries(&root.join("crates")) {
+        sources.extend(entries(&folder).into_iter().filter(|path| !is_kept(path)));
+    }
     for path in &sources {
         println!("cargo:rerun-if-changed={}", path.display());
     }
-    let folder = root.join("target/staticlib");
+    let folder = root.join("crates/hemokatu/out");
     let library = folder.join(LIBRARY);
     let built = changed(&library);
     if built.is_none() || built < sources.iter().filter_map(|path| newest(path)).max() {
@@ -100,12 +103,12 @@ fn build(root: &Path, library: &Path) {
     let mut terminal = OpenOptions::new().write(true).open("/dev/tty").ok();
     let state = if is_there { "an older" } else { "no" };
     let text = format!(
-        "there is {state} {}: `rt staticlib hemokatu` proves the decoder and builds it, about ten minutes on two cores. {HINT}",
+        "there is {state} {}: `rt lib` proves the decoder and builds it, ten minutes or more. {HINT}",
         library.display()
     );
     let rt = Command::new("rt")
-        .args(["staticlib", "hemokatu"])
-        .current_dir(root)
+        .arg("lib")
+        .current_dir(root.join("crates/hemokatu"))
         .stdout(Stdio::piped())
         .spawn();
     let mut rt = match rt {
@@ -125,17 +128,20 @@ fn build(root: &Path, library: &Path) {
     tell(&mut terminal, &text);
     warn(&text);
     let said = rt.stdout.take().expect("rt's output is a pipe");
+    let mut name = String::new();
     for line in BufReader::new(said).lines().map_while(Result::ok) {
         // shown by cargo if this fails
         eprintln!("{line}");
-        if line.starts_with("rt: ") && line.contains(" proved (") {
-            tell(&mut terminal, &line);
+        if line.starts_with("rt: chose --jobs ") {
+            name = line.rsplit(' ').next().unwrap_or_default().to_string();
+        } else if line.starts_with("logic=proved ") {
+            tell(&mut terminal, &format!("{name} proved"));
         }
     }
     match rt.wait() {
         Ok(status) if status.success() => {}
         Ok(status) => fail(&format!(
-            "`rt staticlib hemokatu` failed ({status}); what it said stands above"
+            "`rt lib` failed ({status}); what it said stands above"
         )),
         Err(e) => fail(&format!("`rt` cannot be waited for: {e}")),
     }
@@ -157,6 +163,17 @@ fn warn(text: &str) {
 /// When a file was changed last.
 fn changed(file: &Path) -> Option<SystemTime> {
     file.metadata().and_then(|data| data.modified()).ok()
+}
+
+/// What stands in a folder.
+fn entries(folder: &Path) -> Vec<PathBuf> {
+    let read = folder.read_dir().into_iter().flatten().flatten();
+    read.map(|entry| entry.path()).collect()
+}
+
+/// Whether this is the folder where rt keeps what it made of a crate.
+fn is_kept(path: &Path) -> bool {
+    path.file_name().is_some_and(|name| name == "out")
 }
 
 /// When a file, or any file below a folder, was changed last.

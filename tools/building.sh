@@ -3,10 +3,11 @@
 
 say() { printf '%s: %s\n' "$me" "$*" >&2; }
 
-# Whether a product is missing, or older than one of its sources: older PRODUCT SOURCE...
+# Whether a product is missing, or older than one of its sources: older PRODUCT SOURCE... What rt keeps in out/ is none,
+# so of crates/ the sources are "$root"/crates/*/*.
 older() {
     [ -e "$1" ] || return 0
-    [ -n "$(find -L "$@" -newer "$1" -print -quit)" ]
+    [ -n "$(find -L "$@" -name out -prune -o -newer "$1" -print -quit)" ]
 }
 
 # Whether files can be made in target/.
@@ -57,34 +58,33 @@ take_sheet() { # FILE
 }
 
 # Sets `library` to libhemokatu.a: in the folder that HEMOKATU_LIB names, relative to where the script was called, else
-# that of rt staticlib, built if it is older than crates/. Call it before any cd.
+# that of rt lib, built if it is older than crates/. Call it before any cd.
 take_library() {
     if [ -n "${HEMOKATU_LIB:-}" ]; then
         library=$(realpath -m -- "$HEMOKATU_LIB")/libhemokatu.a
         [ -r "$library" ] || { say "HEMOKATU_LIB is $HEMOKATU_LIB, and there is no $library"; exit 2; }
     else
-        library=$root/target/staticlib/libhemokatu.a
-        build target/staticlib/libhemokatu.a staticlib hemokatu
+        library=$root/crates/hemokatu/out/libhemokatu.a
+        build hemokatu lib libhemokatu.a
     fi
 }
 
-# Runs rt in the repository where a product is missing or older than crates/: build PRODUCT WORD...
+# Runs rt in a crate's folder where its product in out/ is missing or older than crates/: build CRATE COMMAND PRODUCT
 # Where that cannot be done, an older product is used as it is.
 build() {
-    product=$1
-    shift
-    older "$root/$product" "$root/crates" "$root/crates.txt" || return 0
+    product=crates/$1/out/$3
+    older "$root/$product" "$root"/crates/*/* "$root/crates.txt" || return 0
     missing=
     command -v rt >/dev/null || missing="the toolchain's rt is not on the path"
-    can_write || missing="$root/target cannot be written"
+    { can_write && [ -w "$root/crates/$1" ]; } || missing="$root cannot be written"
     if [ -n "$missing" ]; then
         [ -e "$root/$product" ] || { say "there is no $product to use, and $missing to build it"; exit 2; }
         say "$product is older than crates/, and $missing; it is used as it is"
         return
     fi
-    prove "$@" || { say "$product could not be built"; exit 2; }
+    prove "$1" "$2" || { say "$product could not be built"; exit 2; }
     # rt leaves alone what has not changed but for its time
-    [ -e "$root/$product" ] || { say "rt $* wrote no $product"; exit 2; }
+    [ -e "$root/$product" ] || { say "rt $2 in crates/$1 wrote no $product"; exit 2; }
     touch "$root/$product"
 }
 
@@ -95,44 +95,51 @@ other_toolchain() {
     [ "$toolchain" != "$pinned" ]
 }
 
-# Runs rt with these words, and tells of each crate as it is proved.
-# target/proved.COMMAND has the seconds to each crate of the last time that all were proved.
+# Runs rt in a crate's folder, and tells of each crate as it is proved: prove CRATE COMMAND. A program that is run gets
+# the crate's stdin. target/proved.CRATE has the seconds to each crate of the last time that all were proved.
 prove() {
     log=$root/target/$1.log
     last=$root/target/proved.$1
+    input=/dev/null
+    [ ! -e "$root/crates/$1/stdin" ] || input=$root/crates/$1/stdin
     total=$(sed -n 's/^all //p' "$last" 2>/dev/null)
-    if [ -n "$total" ]; then about="$total s, by the last time"; else about="about ten minutes on two cores"; fi
+    if [ -n "$total" ]; then about="$total s, by the last time"; else about="ten minutes or more"; fi
     ! other_toolchain || say "rt is $toolchain, not the $pinned of TOOLCHAIN: what it proves may differ"
-    say "proves the decoder first (rt $*), which takes $about"
-    rm -f "$last.status"
+    say "proves the decoder first (rt $2 in crates/$1), which takes $about"
+    rm -f "$last.status" "$last.new"
     began=$(date +%s)
-    { (cd "$root" && rt "$@" 2>&1) || echo "$?" >"$last.status"; } | while IFS= read -r line; do
+    crate=
+    { (cd "$root/crates/$1" && rt "$2" <"$input" 2>&1) || echo "$?" >"$last.status"; } | while IFS= read -r line; do
         printf '%s\n' "$line"
         tell "$line"
     done >"$log"
     if [ -e "$last.status" ]; then
         rm -f "$last.status" "$last.new"
         tail -n 20 "$log" >&2
-        say "rt $* failed; target/$1.log has all that it said"
+        say "rt $2 in crates/$1 failed; target/$1.log has all that it said"
         return 1
     fi
-    # crates that were not proved again make no whole time
-    if [ -e "$last.new" ] && ! grep -q 'proved (unchanged' "$log"; then
+    # everything stands on model: where it was not proved again, this was no whole time
+    if grep -q '^model ' "$last.new" 2>/dev/null; then
         echo "all $(($(date +%s) - began))" >>"$last.new"
         mv "$last.new" "$last"
     fi
     rm -f "$last.new"
 }
 
-# A line of rt: NAME proved (N s).
+# A line of rt: it begins a crate, or the crate is proved.
 tell() { # LINE
-    case $1 in 'rt: '*' proved ('[0-9]*) ;; *) return ;; esac
-    crate=${1#rt: }
-    crate=${crate%% *}
-    took=$(($(date +%s) - began))
-    echo "$crate $took" >>"$last.new"
-    rest=
-    before=$(sed -n "s/^$crate //p" "$last" 2>/dev/null)
-    [ -z "$total" ] || [ -z "$before" ] || rest="; the rest took $((total - before)) s last time"
-    say "${1#rt: }, $took s in all$rest"
+    case $1 in
+    'rt: chose --jobs '*' for '*) crate=${1##* } ;;
+    'logic=proved '*)
+        [ -n "$crate" ] || return
+        took=$(($(date +%s) - began))
+        echo "$crate $took" >>"$last.new"
+        rest=
+        before=$(sed -n "s/^$crate //p" "$last" 2>/dev/null)
+        [ -z "$total" ] || [ -z "$before" ] || rest="; the rest took $((total - before)) s last time"
+        say "$crate proved, $took s in all$rest"
+        crate=
+        ;;
+    esac
 }

@@ -12,11 +12,11 @@ page() {
 
 Written by `tools/must_fail.sh` from the edits' first lines; `tools/must_fail.sh --check` compares. `CONTRIBUTING.md` says how an edit is written.
 
-`rt ci` makes each edit in a copy of its crate, and the checker must refuse the copy. A line says what the edit would let through. A refusal alone says little, since proofs follow the code's text and a harmless change is refused too: that an edit fails at a fact is seen when it is written, and the gate sees that it is still refused.
+`rt ci` makes each edit in a copy of its crate, and the checker must refuse the copy. A line says what the edit would let through. A refusal alone says little, since proofs follow the code's text and a harmless change is refused too: that an edit fails at a fact is seen when it is written, and the gate sees that it is still refused. An edit that cannot be applied or read shows nothing: `.ci/run` fails where there is one.
 END
     crates=0
     edits=0
-    for crate in $(sed -n 's/^\([a-z][a-z0-9_]*\):.*/\1/p' crates.txt); do
+    for crate in $(sed -n 's/^\([a-z][a-z0-9_]*\)[ :].*/\1/p' crates.txt); do
         set -- "crates/$crate/must-fail/"*.edit
         [ -e "$1" ] || continue
         printf '\n## %s\n\n| edit | what it would let through | file |\n|---|---|---|\n' "$crate"

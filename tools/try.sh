@@ -16,34 +16,36 @@ trap 'chmod -R u+w "$room"; rm -rf "$room"' EXIT
 
 clone="$room/a clone"
 mkdir "$clone" "$room/bin" "$room/else where"
-(cd "$here" && tar cf - --exclude=./target --exclude=./rust/target --exclude=./harness/target --exclude=./.git .) | (cd "$clone" && tar xf -)
+(cd "$here" && tar cf - --exclude=./target --exclude=./rust/target --exclude=./harness/target --exclude='./crates/*/out' --exclude=./.git .) | (cd "$clone" && tar xf -)
 cc -std=c11 -O2 -o "$room/desk" "$here/examples/desk.c" "$library" || exit 2
 cp "$library" "$room/libhemokatu.a"
 cat >"$room/bin/rt" <<END
 #!/bin/sh
 [ "\$1" != version ] || { cat "$room/version"; exit; }
 echo "\$*" >>"$room/calls"
-[ ! -e "$room/fails" ] || { echo "rt: model NOT PROVED (exit 1, 3 s)"; echo "rt: FAILED: model"; exit 1; }
-case "\$1 \$2" in
-"check roadlist")
-    echo "fn model::one: proved"
-    echo "rt: model proved (1 s)"
+[ ! -e "$room/fails" ] || { echo "fn model::one: not proved"; echo "logic=not-proved functions=1"; exit 1; }
+proved() { echo "rt: chose --jobs 1 for \$1"; echo "logic=proved functions=1 sum=0"; }
+case "\$(basename "\$PWD") \$*" in
+"roadlist run")
+    grep -q . || exit 2
+    proved model
     sleep 1
-    echo "rt: decoder proved (1 s)"
+    proved decoder
     sleep 1
-    echo "rt: roadlist proved (0 s)"
-    mkdir -p target/bin
-    printf '#!/bin/sh\nexec "%s" --list -\n' "$room/desk" >target/bin/roadlist
-    chmod +x target/bin/roadlist
-    echo "rt: roadlist ran, and wrote what its file 'stdout' has (0 s)" ;;
-"staticlib hemokatu")
-    echo "rt: hemokatu proved (1 s)"
-    mkdir -p target/staticlib
-    cp "$room/libhemokatu.a" target/staticlib ;;
-"ci ")
-    rm -rf target
-    echo "rt: model proved (1 s)"
-    echo "rt: ok, all proved"
+    proved roadlist
+    mkdir -p out
+    printf '#!/bin/sh\nexec "%s" --list -\n' "$room/desk" >out/roadlist
+    chmod +x out/roadlist
+    echo "rt: running out/roadlist; to give it other input, run that file yourself"
+    echo "path 1" ;;
+"hemokatu lib")
+    proved hemokatu
+    mkdir -p out
+    cp "$room/libhemokatu.a" out ;;
+"a clone ci")
+    rm -rf crates/*/out
+    echo "rt: model proved"
+    cat "$room/ok"
     cat "$room/tally" ;;
 *) exit 2 ;;
 esac
@@ -103,15 +105,15 @@ try 'a folder' 2 '' 'a folder, not a sheet' "$d" "$clone/sheets"
 try 'an empty name' 2 '' 'there is no such file' "$d" ''
 called 'nothing was built' 0
 touch "$room/fails"
-try 'a build that fails' 2 '' 'rt check roadlist failed; target/check.log' "$d"
-try 'what failed is said' 2 '' 'model NOT PROVED' "$d"
+try 'a build that fails' 2 '' 'rt run in crates/roadlist failed; target/roadlist.log' "$d"
+try 'what failed is said' 2 '' 'fn model::one: not proved' "$d"
 rm "$room/fails" "$room/calls"
 # progress
-try 'a fresh clone' 0 'primary 700 4049000000000000' 'about ten minutes on two cores' "$d"
+try 'a fresh clone' 0 'primary 700 4049000000000000' 'ten minutes or more' "$d"
 try 'and another time' 0 'path 1' '' "$d"
 called 'built once' 1
 touch "$clone/crates.txt"
-try 'sources that are newer' 0 'path 1' 'decoder proved (1 s), 1 s in all; the rest took 1 s last time' "$d"
+try 'sources that are newer' 0 'path 1' 'decoder proved, 1 s in all; the rest took 1 s last time' "$d"
 called 'built again' 2
 echo 'rattle-kit-0 logic 0' >"$room/version"
 touch "$clone/crates.txt"
@@ -178,6 +180,7 @@ try 'desk: HEMOKATU_LIB without a library' 2 '' "and there is no $room/else wher
 # a release
 r="$clone/tools/release.sh"
 echo '7 passed, 0 failed' >"$room/tally"
+echo 'rt: ok; handles allowed: none; must-fail edits: 3 refused; every proof and must-fail edit was done in this run' >"$room/ok"
 try 'release: help' 0 'usage: release.sh' '' "$r" --help
 try 'release: no folder' 2 '' 'usage: release.sh' "$r"
 try 'release: a folder that is there' 2 '' 'is there already' "$r" .
@@ -190,9 +193,16 @@ for tally in '7 passed, 1 failed' '0 passed, 0 failed' 'rt: FAILED: model' ''; d
     echo "$tally" >"$room/tally"
     try "release: the gate says '$tally'" 1 '' 'the gate has not passed' "$r" none
 done
+echo '7 passed, 0 failed' >"$room/tally"
+mv "$room/ok" "$room/good"
+echo 'rt: ok; handles allowed: none; must-fail edits: 3 refused, 1 bad; every proof and must-fail edit was done in this run' >"$room/ok"
+try 'release: a bad edit' 1 '' 'bad must-fail edits show nothing' "$r" none
+cat "$room/ok" "$room/tally" >kept
+try 'release: a bad edit in a kept output' 1 '' 'there are bad must-fail edits' "$r" --gate kept none
+mv "$room/good" "$room/ok"
 try 'release: none was made' 2 '' 'No such file' ls none
 touch "$room/fails"
-try 'release: the gate fails' 1 '' 'rt ci ended with status 1' "$r" none
+try 'release: the gate fails' 1 '' 'the gate ended with status 1' "$r" none
 rm "$room/fails"
 printf 'rt: ok\n12 passed, 0 failed\n' >kept
 before=$(grep -c '^ci' "$room/calls")
@@ -243,15 +253,15 @@ if command -v cargo >/dev/null; then
     try 'host: cargo, HEMOKATU_LIB relative' 0 "$number $number" '' env HEMOKATU_LIB=lib $cargo
     try 'host: cargo, HEMOKATU_LIB without a library' 101 '' "which is taken from $room/else where/host, and there is no" env HEMOKATU_LIB=none $cargo
     # the crate of the clone, whose build script calls rt
-    rm -rf "$clone/target"
+    rm -rf "$clone"/crates/*/out
     crate() { env "$@" CARGO_TARGET_DIR="$room/crate" cargo build --offline -j1 --manifest-path "$clone/rust/Cargo.toml"; }
     before=$(calls)
     try 'crate: HEMOKATU_LIB' 0 '' 'Finished' crate HEMOKATU_LIB="$room"
     called 'crate: nothing is proved' "$before"
     touch "$room/fails"
-    try 'crate: a proof that fails' 101 '' '`rt staticlib hemokatu` failed' crate HEMOKATU_LIB=
+    try 'crate: a proof that fails' 101 '' '`rt lib` failed' crate HEMOKATU_LIB=
     rm "$room/fails"
-    try 'crate: says that it proves' 0 '' 'proves the decoder and builds it, about ten minutes on two cores. HEMOKATU_LIB=FOLDER names' crate HEMOKATU_LIB=
+    try 'crate: says that it proves' 0 '' 'proves the decoder and builds it, ten minutes or more. HEMOKATU_LIB=FOLDER names' crate HEMOKATU_LIB=
     before=$(calls)
     try 'crate: and another time' 0 '' 'Finished' crate HEMOKATU_LIB=
     called 'crate: proved once' "$before"
@@ -274,15 +284,15 @@ try 'read only: desk.sh' 0 'road 700' '' as "$h"
 try 'read only: another library' 0 'road 700' '' as env HEMOKATU_LIB=../ "$h"
 touch "$clone/crates.txt"
 try 'read only: an older list program' 0 'path 1' 'it is used as it is' as "$d"
-rm -r "$clone/target/bin"
-try 'read only: no list program' 2 '' "$clone/target cannot be written to build it" as "$d"
+rm -r "$clone/crates/roadlist/out"
+try 'read only: no list program' 2 '' "$clone cannot be written to build it" as "$d"
 chmod -R u+w "$clone"
 # no rt
 PATH=$(printf %s "$PATH" | sed "s|^$room/bin:||") && mkdir -p "$room/few" && for c in sh cat dirname realpath find mktemp rm head wc touch mkdir sed env cc; do ln -sf "$(command -v $c)" "$room/few/$c"; done
 try 'without rt' 2 '' "the toolchain's rt is not on the path to build it" env PATH="$room/few" "$d"
 if command -v cargo >/dev/null; then
     for c in cargo rustc; do ln -sf "$(command -v $c)" "$room/few/$c"; done
-    rm -rf "$clone/target"
+    rm -rf "$clone"/crates/*/out
     try 'crate: without rt' 101 '' "put the toolchain's \`rt\` on the path, or HEMOKATU_LIB=FOLDER names" crate HEMOKATU_LIB= PATH="$room/few"
 fi
 
