@@ -57,7 +57,8 @@ pub fn passes(c: Settings, p: Point, w: Row, r: Road) -> bool
     ensures { result ≡ passes c (candidate_of c p (record { row = w; road = r })) }
 {
     let frc_diff = road_class::class_difference(r.frc, p.frc);
-    if frc_diff > c.frc_tolerance && r.fow != 6 {
+    let barred = r.fow != 6;
+    if frc_diff > c.frc_tolerance && barred {
         return false;
     }
     if w.distance_m > c.search_radius_m {

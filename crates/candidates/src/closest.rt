@@ -161,7 +161,8 @@ fn nearest(s: &[u8], c: Counts, set: Settings, i: usize, first: usize) -> f64
 {
     let all = look(s, c, set, i, first);
     let most = set.max_candidates as usize;
-    if all.passing <= most {
+    let uncut = all.passing <= most;
+    if uncut {
         return all.least;
     }
     let xs = order_rows(s, c, set, i, first);

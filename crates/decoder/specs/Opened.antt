@@ -1,5 +1,5 @@
 -- The lent areas of a call, and what refusals 1 to 6 leave.
-use Rattle.std.specs.Prelude.{ℕ, ◌+◌, ◌/◌, ◌≤◌, min, ◌≡◌, List, length}
+use Rattle.std.specs.Prelude.{ℕ, ◌/◌, ◌≤◌, min, ◌≡◌, List, length}
 use Rattle.model.specs.declared.Counts.{Counts}
 use Rattle.model.specs.Judge.{WellFormed}
 use Rattle.model.specs.Sheet.{sheet_of}

@@ -1,5 +1,5 @@
 -- What a C host sees: the version, the judge's verdict, the least sizes of the areas, and the answer, as numbers.
-use Rattle.std.specs.Prelude.{ℕ, ◌+◌, ◌≤◌, ◌≡◌, cond, ◌&&◌, List, leb, Float}
+use Rattle.std.specs.Prelude.{ℕ, ◌≤◌, ◌≡◌, cond, ◌&&◌, List, leb, Float}
 use Rattle.model.specs.declared.Judged.{Judged}
 use Rattle.model.specs.declared.Judged.TheVariants.{Fine, Refused}
 use Rattle.model.specs.Numbers.{f0}

@@ -73,7 +73,8 @@ fn good_road(s: &[u8], at: usize, n: usize) -> bool
     if n <= target {
         return false;
     }
-    if 0x2_0000 <= rest {
+    let beyond_flag = 0x2_0000 <= rest;
+    if beyond_flag {
         return false;
     }
     if 7 < frc {

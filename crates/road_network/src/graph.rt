@@ -208,7 +208,8 @@ pub fn way_on(s: &[u8], c: Counts, r: usize) -> Forced
     let end = roads::start(s, c, v + 1);
     while j < end {
         let x = roads::entry(s, c, j);
-        if roads::target(s, c, x) != from {
+        let onward = roads::target(s, c, x) != from;
+        if onward {
             return Forced::Way(x);
         }
         j += 1;

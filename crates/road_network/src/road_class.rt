@@ -92,14 +92,16 @@ pub fn raised(tolerance: u8, limit: u8) -> u8
         return 255;
     }
     let sum = (limit as u16) + (tolerance as u16);
-    if sum < 7 { sum as u8 } else { 7 }
+    let below = sum < 7;
+    if below { sum as u8 } else { 7 }
 }
 
 // Whether a leg may use road r: its class is within the limit, or it is a slip road.
 pub fn permits(k: AStarConstraints, r: Road) -> bool
     ensures { result ≡ permits k r }
 {
-    r.frc <= k.max_frc || r.fow == 6
+    let within = r.frc <= k.max_frc;
+    within || r.fow == 6
 }
 
 // n where a mark is set, else 0.

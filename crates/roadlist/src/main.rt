@@ -52,7 +52,8 @@ fn list(sheet: &[u8], out: &mut [u8]) -> usize
     requires { 11264 ≤ length out.old }
     ensures { Listed (listing sheet.now) out.new result }
 {
-    if 49152 < sheet.len() {
+    let too_long = 49152 < sheet.len();
+    if too_long {
         let large = text::write_large(out);
         size(large)
     } else {

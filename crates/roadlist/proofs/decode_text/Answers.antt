@@ -1,5 +1,4 @@
 use Rattle.roadlist.proofs.Whole.{listed_decoded}
-use borrow.Author.Rules.{rules}
 use Rattle.roadlist.proofs.decode_text.Goals as goal
 
 pub returns : goal.returns

@@ -1,5 +1,4 @@
 use Rattle.roadlist.specs.Listing.{size_of}
-use borrow.Author.Rules.{rules}
 use Rattle.roadlist.proofs.size.Goals as goal
 
 pub returns-in-Bytes : goal.returns-in-Bytes

@@ -11,8 +11,8 @@ returns-then-n-source c = no_claim
 pub returns-then-n-target : goal.returns-then-n-target
 returns-then-n-target c = no_claim
 
-pub returns-then-rest-ge131072 : goal.returns-then-rest-ge131072
-returns-then-rest-ge131072 c = no_claim
+pub returns-then-beyond_flag : goal.returns-then-beyond_flag
+returns-then-beyond_flag c = no_claim
 
 pub returns-then-frc-gt7 : goal.returns-then-frc-gt7
 returns-then-frc-gt7 c = no_claim
@@ -29,5 +29,5 @@ returns c =
     let rest = c.u64_at-rest.ensures in
     let good = road_whole a.s.now a.at a.n
     (let l = c.if-metres-gt-MOST.false in omega (arith, metres)) (let l = c.if-n-source.false in omega (arith, source)) (let l = c.if-n-target.false in omega (arith, target))
-    (let l = c.if-rest-ge131072.false in omega (arith, rest)) c.if-frc-gt7.false c.if-fow-gt7.false in
+    (let l = c.if-beyond_flag.false in omega (arith, rest)) c.if-frc-gt7.false c.if-fow-gt7.false in
     λ e. good

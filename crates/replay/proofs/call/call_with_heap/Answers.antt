@@ -1,4 +1,3 @@
-use borrow.Author.Rules.{rules}
 use Rattle.replay.proofs.Parts.{front}
 use Rattle.replay.proofs.call.call_with_heap.Goals as goal
 

@@ -1,11 +1,8 @@
 use Rattle.replay.proofs.Every.{one_more, none_below}
-use Rattle.replay.specs.Agreeing.{word_at, behind}
-use lib.ListN.{length, get_or}
+use lib.ListN.{get_or}
 use mathlib.Core.Bool.{false≢true}
 use mathlib.Core.Path.{◌≡◌, ◌∙◌}
-use borrow.Author.Rules.{rules}
 use native.Mathlib.Omega.{arith}
-use Prim.Native.Nat.{ℕ, ◌-◌, ◌≤◌, ◌<◌}
 use Rattle.replay.proofs.compare.ids_agree.Goals as goal
 
 pub loop-i-init : goal.loop-i-init

@@ -1,10 +1,6 @@
-use Rattle.replay.proofs.Every.{one_more, none_below}
-use Rattle.replay.specs.Agreeing.{word_at, behind}
+use Rattle.replay.specs.Agreeing.{word_at}
 use lib.ListN.{length, get_or}
-use mathlib.Core.Bool.{false≢true}
-use mathlib.Core.Path.{◌≡◌, ◌∙◌}
-use borrow.Author.Rules.{rules}
-use native.Mathlib.Omega.{arith}
+use mathlib.Core.Path.{◌≡◌}
 use Prim.Native.Nat.{ℕ, ◌-◌, ◌≤◌, ◌<◌}
 use Rattle.replay.proofs.compare.ids_agree.Given as goal
 

@@ -1,13 +1,6 @@
 use Rattle.replay.proofs.Every.{one_more, none_below}
-use Rattle.replay.specs.Agreeing.{word_at, behind, HasBits}
-use lib.ListN.{length, get_or}
-use lib.Ieee.{nan}
 use mathlib.Core.Bool.{false≢true}
-use mathlib.Core.Path.{◌≡◌}
-use borrow.Author.Tests.{not-false}
-use borrow.Author.Rules.{rules}
 use native.Mathlib.Omega.{arith}
-use Prim.Native.Nat.{ℕ, ◌-◌, ◌≤◌, ◌<◌}
 use Rattle.replay.proofs.compare.lengths_agree.Goals as goal
 
 pub loop-j-init : goal.loop-j-init

@@ -1,6 +1,4 @@
 use mathlib.Core.Bool.{false≢true}
-use borrow.Author.Tests.{not-false}
-use borrow.Author.Rules.{rules}
 use Rattle.replay.proofs.compare.lists_agree.Goals as goal
 
 pub returns-then-ids-roads : goal.returns-then-ids-roads

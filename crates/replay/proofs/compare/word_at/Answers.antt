@@ -1,7 +1,6 @@
 use Rattle.replay.specs.Agreeing.{word_at}
 use borrow.Author.Tests.{lt-ltb, le-ltb}
 use native.Mathlib.Omega.{arith}
-use borrow.Author.Rules.{rules}
 use Rattle.replay.proofs.compare.word_at.Goals as goal
 
 pub returns-then-i-e : goal.returns-then-i-e

@@ -1,4 +1,3 @@
-use borrow.Author.Rules.{rules}
 use Rattle.replay.proofs.Parts.{front}
 use Rattle.replay.proofs.list.agrees.Goals as goal
 

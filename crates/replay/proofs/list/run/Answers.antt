@@ -1,5 +1,4 @@
 use mathlib.Core.Bool.{false≢true}
-use borrow.Author.Rules.{rules}
 use Rattle.replay.proofs.list.run.Goals as goal
 
 pub returns-then-not-answer_agrees : goal.returns-then-not-answer_agrees

@@ -9,16 +9,16 @@ pub returns-then-limit-eq255 : goal.returns-then-limit-eq255
 unfolding raised
 returns-then-limit-eq255 c = rw (eq-eqb _ _ c.if-limit-eq255.true)
 
-pub returns-then-sum-lt7 : goal.returns-then-sum-lt7
+pub returns-then-below : goal.returns-then-below
 unfolding raised
-returns-then-sum-lt7 c =
+returns-then-below c =
     let s = c.args in
-    let h : s.limit + s.tolerance ≤ 7 = omega arith in
+    let h : s.limit + s.tolerance ≤ 7 = omega (arith, c.if-below.true) in
     rw (ne_eqb _ _ c.if-limit-eq255.false, min-eq_right h)
 
-pub returns-else-sum-lt7 : goal.returns-else-sum-lt7
+pub returns-else-below : goal.returns-else-below
 unfolding raised
-returns-else-sum-lt7 c =
+returns-else-below c =
     let s = c.args in
-    let h : 7 ≤ s.limit + s.tolerance = omega arith in
+    let h : 7 ≤ s.limit + s.tolerance = omega (arith, c.if-below.false) in
     rw (ne_eqb _ _ c.if-limit-eq255.false, min-eq_left h)
