@@ -26,18 +26,16 @@ fn tried(n: usize) -> usize
     if n < MOST_TRIED { n } else { MOST_TRIED }
 }
 
-// What stands in a place that is not used.
-fn no_item() -> Candidate {
-    Candidate {
-        edge_idx: 0,
-        distance_m: 0.0,
-        bearing_diff: 0.0,
-        frc_diff: 0,
-        fow_score: 0.0,
-        score: 0.0,
-        projection_fraction: 0.0,
-    }
-}
+// What stands in a place that is not used. A constant, so that zeros are stored in each place: the result of a call would be copied into it.
+const NOTHING: Candidate = Candidate {
+    edge_idx: 0,
+    distance_m: 0.0,
+    bearing_diff: 0.0,
+    frc_diff: 0,
+    fow_score: 0.0,
+    score: 0.0,
+    projection_fraction: 0.0,
+};
 
 // The candidates of point i that a leg tries, best first. Rows come in the order of their roads' numbers, so among equal scores the earlier stays in front.
 // A full list takes a candidate only before its last, which falls out.
@@ -45,8 +43,7 @@ pub fn find_candidates(s: &[u8], c: Counts, set: Settings, i: usize) -> Candidat
     requires { WellFormed s.now c × (i < c.p) × (set ≡ (sheet_of s.now c).settings) }
     ensures { CandidatesOf (sheet_of s.now c) c i result }
 {
-    let nothing = no_item();
-    let mut items = [nothing; MOST_TRIED];
+    let mut items = [NOTHING; MOST_TRIED];
     let mut count = 0;
     let most = tried(set.max_candidates as usize);
     if 0 < most {
