@@ -9,8 +9,9 @@ in clauses and ghost lines only the own names are turned. --list prints the name
 """
 import os, re, sys
 
-TOP = os.path.dirname(os.path.dirname(os.path.realpath(__file__)))
-CRATES = os.path.join(os.environ.get("TREE", TOP), "crates")
+CRATES = "crates"
+if not os.path.isdir(CRATES):
+    sys.exit("snake_names: no folder crates here: run it at the top of the repository")
 OWN = sorted(c for c in os.listdir(CRATES) if os.path.isdir(os.path.join(CRATES, c)))
 WORD = re.compile(r"[^\W\d][\w'′]*(?:-[\w'′]+)*", re.U)
 DECL = re.compile(r"^\s*(?:(?:pub|abbrev|unfoldable|opaque|record|data|module|mod|private|instance|syntax)\s+)*([^\W\d][\w'′]*(?:-[\w'′]+)*)\s*(?::|\(|\{|where\b)", re.U)
