@@ -57,8 +57,8 @@ pub fn passes(c: Settings, p: Point, w: Row, r: Road) -> bool
     ensures { result ≡ passes c (candidate_of c p (record { row = w; road = r })) }
 {
     let frc_diff = road_class::class_difference(r.frc, p.frc);
-    let barred = r.fow != 6;
-    if frc_diff > c.frc_tolerance && barred {
+    let no_slip_road = r.fow != 6;
+    if frc_diff > c.frc_tolerance && no_slip_road {
         return false;
     }
     if w.distance_m > c.search_radius_m {

@@ -1,4 +1,4 @@
-// The calls for hosts in C or Rust. Built by `rt lib` in this folder.
+// The calls for hosts in C or Rust. Built by `rt lib` in the crate's folder.
 #![tactic(auto)]
 
 ghost use Rattle.std.specs.Prelude.{◌≡◌, length};
