@@ -97,9 +97,7 @@ def main():
     for p in files():
         t = open(p, encoding="utf-8").read()
         for n in WORD.findall(t):
-            if n[0].isupper() and "_" in n and not n.isupper() and n.replace("_", "-") in names | {x for x in names}:
-                half.add(n)
-            if n[0].isupper() and re.match(r"[A-Z][a-z]+_[a-z]", n):
+            if re.match(r"[A-Z][a-z]+_[a-z]", n):
                 half.add(n)
     # a field that port.py leaves where a parameter has its name
     names |= half | {"came-from"}

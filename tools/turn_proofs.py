@@ -243,7 +243,7 @@ def turn(file, data, crate, path):
                 fn.notes.append("loop arguments")
                 continue
             table = dict(zip(args, want))
-            body = re.sub(r"(?<![\w.'₀])(" + NAME + r")(?=[^\w'₀]|$)", lambda q: table.get(q.group(1), q.group(1)) if not re.match(r"\s*=[^>]", body[q.end():]) or True else q.group(1), body)
+            body = re.sub(r"(?<![\w.'₀])(" + NAME + r")(?=[^\w'₀]|$)", lambda q: table.get(q.group(1), q.group(1)), body)
             invariants.append("\n".join(comments + [f"abbrev pub {kind}-{new} : goal.{kind}-{new}"] + unfold + [f"{kind}-{new} l =" + body]))
             continue
         old = re.sub(r"^Need-", "", what)
@@ -264,8 +264,6 @@ def turn(file, data, crate, path):
         head, body = clause.split("=", 1)
         if body.strip() == "search rules" and not unfold:
             continue
-        if body.strip() == "omega arith":
-            pass
         place = data["asked_at"][i][0]
         body = fn.body(body, place)
         fields = data["asked"].get(needs[i][0]) or data["asked"].get(new)
@@ -275,23 +273,17 @@ def turn(file, data, crate, path):
                 fn.notes.append(f"{new}: clauses {fields} are not a tuple here")
             else:
                 body = " " + made
-        params = head.split()[1:]
-        extra = " c"
         if "κs" in body:
             fn.notes.append(f"{new}: κs")
-        answers.append("\n".join(comments + [f"pub {new} : goal.{new}"] + unfold + [f"{new}{extra} =" + (body if body.startswith(("\n", " ")) else " " + body)]))
+        answers.append("\n".join(comments + [f"pub {new} : goal.{new}"] + unfold + [f"{new} c =" + (body if body.startswith(("\n", " ")) else " " + body)]))
     base = f"Rattle.{crate}.proofs.{path}"
     folder = os.path.dirname(file)
-    wrote = []
     if invariants or any("invariant" in norm(h) for h in hand):
-        words = set(re.findall(r"[^\s(){}.,;]+", "\n".join(invariants)))
         open(os.path.join(folder, "Invariants.antt"), "w", encoding="utf-8").write("\n".join(uses + [f"use {base}.Given as goal", ""]) + "\n" + "\n\n".join(invariants) + "\n")
-        wrote.append("Invariants")
     keep = helpers + answers + hand
     if keep:
         open(os.path.join(folder, "Answers.antt"), "w", encoding="utf-8").write("\n".join(uses + [f"use {base}.Goals as goal", ""]) + "\n" + "\n\n".join(keep) + "\n")
-        wrote.append("Answers")
-    return fn.notes, wrote
+    return fn.notes
 
 
 def main():
@@ -309,7 +301,7 @@ def main():
         if key not in data:
             print(f"{crate}.{path}: no names")
             continue
-        notes, wrote = turn(os.path.join(folder, "Proof.antt"), data[key], crate, path)
+        notes = turn(os.path.join(folder, "Proof.antt"), data[key], crate, path)
         os.remove(os.path.join(folder, "Proof.antt"))
         if notes:
             print(f"{crate}.{path}: " + "; ".join(dict.fromkeys(notes)))
