@@ -1,10 +1,11 @@
 -- The lent areas by their sizes, the answer and the two answer lists, as the definition has them.
-use Rattle.std.specs.Prelude.{ℕ, List, Float}
+use Rattle.std.specs.Prelude.{ℕ, List, Result, Ok, Err, Float}
 use Rattle.model.specs.Call.{Lists, Lent, refused, matched, Decoded}
 use Rattle.model.specs.Call as call
 use Rattle.answers.specs.declared.Sizes.{Sizes}
-use Rattle.answers.specs.declared.Answer.{Answer}
-use Rattle.answers.specs.declared.Answer.TheVariants as A
+use Rattle.answers.specs.declared.Match.{Match}
+use Rattle.model.specs.declared.error.DecodeError.{DecodeError}
+use Rattle.model.specs.Refusals.{number_of, place_a, place_b}
 
 -- what a call is lent: areas of these sizes, and the lists l
 abbrev pub lent_of : Sizes → Lists → Lent
@@ -14,10 +15,10 @@ lent_of a l = record { node = a.node; heap = a.heap; coverage = a.coverage; list
 abbrev pub lists : List ℕ → List Float → Lists
 lists ids lengths = record { ids = ids; lengths = lengths }
 
--- the answer as the definition has it
-unfoldable pub answer_of : Answer → call.Answer
-answer_of (A.Refused n a b) = refused n a b
-answer_of (A.Matched m) = matched record {
+-- the answer as the definition has it: a refusal by its number and places
+unfoldable pub answer_of : Result Match DecodeError → call.Answer
+answer_of (Err e) = refused (number_of e) (place_a e) (place_b e)
+answer_of (Ok m) = matched record {
   count = m.count;
   length_m = m.length_m;
   start_offset = m.start_offset;
@@ -28,5 +29,5 @@ answer_of (A.Matched m) = matched record {
   coverage = m.coverage;
 }
 
-abbrev pub decoded : Answer → List ℕ → List Float → Decoded
+abbrev pub decoded : Result Match DecodeError → List ℕ → List Float → Decoded
 decoded r ids lengths = record { answer = answer_of r; lists = lists ids lengths }

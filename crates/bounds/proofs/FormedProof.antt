@@ -11,7 +11,7 @@ use borrow.Author.Tests.{ltb-true, ltb-false}
 use Rattle.model.specs.declared.Counts.{Counts}
 use Rattle.model.specs.declared.Row.{Row}
 use Rattle.model.specs.declared.Road.{Road}
-use Rattle.model.specs.declared.Judged.TheVariants.{Fine}
+use Rattle.model.specs.Judge.{Fine}
 use Rattle.model.specs.Lists.{In}
 use Rattle.model.specs.Bytes.{u64_at, f64_at}
 use Rattle.model.specs.Layout.{counts_of, road_bytes, points_bytes, rows_bytes}

@@ -2,7 +2,6 @@ pub mod Rank
 pub mod AmountLaws
 pub mod FormedProof
 pub mod Choices
-pub mod Shifted
 pub mod Counting
 pub mod HeapLaws
 pub mod Turns

@@ -5,8 +5,8 @@ use mathlib.Core.Bool.{Bool, true, false, cond}
 use mathlib.Core.List.{List, [], map}
 use native.Mathlib.Nat.{le_trans, le_of_eq}
 use lib.ListN.{length, length-map}
-use Rattle.model.specs.declared.Judged.{Judged}
-use Rattle.model.specs.declared.Judged.TheVariants.{Fine, Refused}
+use Rattle.model.specs.Judge.{Judged}
+use Rattle.model.specs.Judge.{Fine, Refused}
 use Rattle.model.specs.Numbers.{f0}
 use Rattle.model.specs.Judge.{judged}
 use Rattle.model.specs.Sheet.{Sheet, road_at, parsed}

@@ -13,7 +13,7 @@ use lib.Ieee.Fits.{and_l}
 use Rattle.model.specs.declared.Road.{Road}
 use Rattle.model.specs.Candidates.{Candidate}
 use Rattle.model.specs.declared.Limits.{Limits}
-use Rattle.model.specs.declared.Judged.TheVariants.{Fine}
+use Rattle.model.specs.Judge.{Fine}
 use Rattle.model.specs.Numbers.{f0, f1, ◌<ᶠ◌, ◌≤ᶠ◌, ◌⊘◌}
 use Rattle.model.specs.Lists.{In, head, last, maybe}
 use Rattle.model.specs.Judge.{judged}

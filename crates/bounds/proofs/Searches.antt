@@ -11,8 +11,8 @@ use lib.Ieee.{Float}
 use Rattle.model.specs.declared.Point.{Point}
 use Rattle.model.specs.declared.Road.{Road}
 use Rattle.model.specs.declared.Limits.{Limits}
-use Rattle.model.specs.declared.Judged.{Judged}
-use Rattle.model.specs.declared.Judged.TheVariants.{Fine, Refused}
+use Rattle.model.specs.Judge.{Judged}
+use Rattle.model.specs.Judge.{Fine, Refused}
 use Rattle.model.specs.Numbers.{◌≤ᶠ◌, f0}
 use Rattle.model.specs.Lists.{In, maybe, sort}
 use Rattle.model.specs.Layout.{point_along_line}

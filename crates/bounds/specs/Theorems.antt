@@ -13,7 +13,7 @@ use Rattle.model.specs.Decode.{FullPath, outcome, matched}
 use Rattle.model.specs.Ends.{Walk, no_walk, walk, extension, finalize_path}
 use Rattle.model.specs.Call.{Lists, Lent, Match, Decoded, most_entries, after_judging, decode_by, decode}
 use Rattle.model.specs.Call as call
-use Rattle.model.specs.declared.Judged.TheVariants.{Fine}
+use Rattle.model.specs.Judge.{Fine}
 use Rattle.bounds.specs.Amounts.{Amount, Finite}
 use Rattle.bounds.specs.Routes.{Ways, Leads}
 

@@ -1,30 +1,29 @@
 -- The least distance of a list of candidates by ranks, where the order has no part.
-use Prim.Native.Nat.{ℕ, zero, suc, ◌+◌, ◌≤◌, ◌<◌, min}
-use mathlib.Core.Path.{◌≡◌, refl, sym, ap, ◌∙◌, subst}
+use Prim.Native.Nat.{ℕ, ◌≤◌, ◌<◌, min}
+use mathlib.Core.Path.{◌≡◌, refl, sym, ap, ◌∙◌}
 use mathlib.Core.Bool.{Bool, true, false, cond}
-use mathlib.Core.Option.{Option, none, some}
 use mathlib.Core.List.Memᴰ
-use mathlib.Core.List.{List, [], ◌∷◌}
+use mathlib.Core.List.{List, [], ◌∷◌, map}
 use native.Mathlib.Omega.{arith}
 use lib.Dec.{T}
-use lib.Ieee.{Float, lt}
-use borrow.Author.Tests.{ltb-true, ltb-false, eqb-true, eq-eqb}
-use Rattle.model.specs.declared.Counts.{Counts}
+use lib.ListN.{length}
+use lib.Seq.{take_all}
+use lib.Ieee.{Float, binary64, of_bits, lt}
+use borrow.Author.Tests.{eqb-true, eq-eqb}
 use Rattle.model.specs.Numbers.{fmin, infinity}
-use Rattle.model.specs.Lists.{insert, fold}
-use Rattle.model.specs.Judge.{WellFormed, row_count, rows_before}
-use Rattle.model.specs.Candidates.{Candidate, candidate_of, candidate, better, nearest}
-use Rattle.model.proofs.Members.{here, Every, every_none}
-use Rattle.model.proofs.RowSums.{rows_within}
+use Rattle.model.specs.Lists.{insert, sort, fold}
+use Rattle.model.specs.Sheet.{Sheet}
+use Rattle.model.specs.Candidates.{Candidate, better, nearest}
+use Rattle.model.proofs.Members.{here, in_sort, in_take, Every}
 use Rattle.bounds.specs.Amounts.{Finite, Amount, amount}
 use Rattle.bounds.proofs.Rank.{rank, Number, number, to_number, lt_rank}
 use Rattle.bounds.proofs.AmountLaws.{finite_amount}
-use Rattle.bounds.proofs.Sources.{when_some}
-use Rattle.candidates.specs.Nearest.{EqualAmounts}
-use Rattle.candidates.proofs.Sorted.{every_insert}
-use Rattle.candidates.proofs.Ranked.{lt_is, eq_is}
-use Rattle.candidates.proofs.SheetFacts.{measured}
-use Rattle.candidates.proofs.Gathered.{placed, sorted, sorted_none, sorted_some, row_candidate}
+use Rattle.candidates.specs.declared.candidate.Candidate as code
+use Rattle.candidates.specs.Found.{kept_at, passing_at, candidates_at, by_number}
+use Rattle.candidates.specs.Nearest.{EqualAmounts, least_of}
+use Rattle.candidates.proofs.Inserting.{length_sort}
+use Rattle.candidates.proofs.Ranked.{eq_is, below_rank, not_below_rank}
+use Rattle.candidates.proofs.Listed.{candidates_cut}
 
 -- ---- equal amounts
 
@@ -48,19 +47,13 @@ finite_below x h = lt_rank x infinity (finite_amount x h) infinity_amount (go (t
 
 -- the smaller of two
 module _ (a b : Float) (p : Amount a) (q : Amount b) where
-  pub less : lt b a ≡ true → rank b < rank a
-  less e = ltb-true _ _ (sym (lt_is b a q p) ∙ e)
-
-  pub not_less : lt b a ≡ false → rank a ≤ rank b
-  not_less e = ltb-false _ _ (sym (lt_is b a q p) ∙ e)
-
   fmin_both : Amount (fmin a b) × (rank (fmin a b) ≡ min (rank a) (rank b))
   unfolding fmin
   fmin_both = go (lt b a) refl
     where
       go : (t : Bool) → lt b a ≡ t → Amount (cond t b a) × (rank (cond t b a) ≡ min (rank a) (rank b))
-      go true e = (q, omega (arith, less e))
-      go false e = (p, omega (arith, not_less e))
+      go true e = (q, omega (arith, below_rank b a q p e))
+      go false e = (p, omega (arith, not_below_rank b a q p e))
 
 -- ---- the least of a list
 
@@ -102,7 +95,7 @@ fold_both b (x ∷ xs) p ps =
     let w = fold_both (fmin b x.distance_m) xs one.0 (λ z m. ps z (Memᴰ.tail m)) in
     (w.0, w.1 ∙ ap (λ (n : ℕ). least_from n xs) one.1)
 
-pub nearest_amount : (xs : List Candidate) → Every Distant xs → Amount (nearest xs)
+nearest_amount : (xs : List Candidate) → Every Distant xs → Amount (nearest xs)
 unfolding nearest
 nearest_amount xs ps = (fold_both infinity xs infinity_amount ps).0
 
@@ -110,47 +103,48 @@ nearest_rank : (xs : List Candidate) → Every Distant xs → rank (nearest xs) 
 unfolding nearest
 nearest_rank xs ps = (fold_both infinity xs infinity_amount ps).1
 
--- one more, wherever it goes
-insert_rank : (x : Candidate) (ys : List Candidate) → Distant x → Every Distant ys → rank (nearest (insert better x ys)) ≡ min (rank (nearest ys)) (rank x.distance_m)
-insert_rank x ys p ps = nearest_rank (insert better x ys) (every_insert better Distant x ys p ps) ∙ least_insert better (rank infinity) x ys ∙ ap (λ (n : ℕ). min n (rank x.distance_m)) (sym (nearest_rank ys ps))
+-- sorted or not
+least_sort : (m : ℕ) (ys xs : List Candidate) → least_from m (fold (λ zs x. insert better x zs) ys xs) ≡ least_from (least_from m ys) xs
+unfolding fold least_from
+least_sort m ys [] = refl
+least_sort m ys (x ∷ xs) = least_sort m (insert better x ys) xs ∙ ap (λ (n : ℕ). least_from n xs) (least_insert better m x ys)
 
--- ---- the rows of a point
+pub nearest_sorted : (xs : List Candidate) → Every Distant xs → EqualAmounts (nearest xs) (nearest (sort better xs))
+unfolding sort least_from
+nearest_sorted xs ps =
+    let qs : Every Distant (sort better xs) = λ x m. ps x (in_sort better xs m) in
+    alike _ _ (nearest_amount xs ps) (nearest_amount (sort better xs) qs) (nearest_rank xs ps ∙ sym (nearest_rank (sort better xs) qs ∙ least_sort (rank infinity) [] xs))
 
-module _ (s : List ℕ) (c : Counts) (i : ℕ) (h : i < c.p) (ok : WellFormed s c) where
-  row_distant : (k : ℕ) → k < row_count s i → (x : Candidate) → row_candidate s c i k ≡ some x → Distant x
-  unfolding row_candidate candidate candidate_of
-  row_distant k l x e =
-      let is = (when_some _ _ x e).1 in
-      subst Distant is (finite_amount _ (measured s c ok i h (rows_before s i + k) (omega (arith, rows_within s c ok.rows i h))).distance_m)
+-- ---- in the code's loops
 
-  pub sorted_distant : (k : ℕ) → k ≤ row_count s i → Every Distant (sorted (row_candidate s c i) k)
-  unfolding sorted
-  sorted_distant zero l = every_none _
-  sorted_distant (suc k) l = go (row_candidate s c i k) (row_distant k l) (sorted_distant k (omega arith))
-    where
-      go : {xs : List Candidate} (o : Option Candidate) → ((x : Candidate) → o ≡ some x → Distant x) → Every Distant xs → Every Distant (placed o xs)
-      go none f ps = ps
-      go {xs} (some x) f ps = every_insert better Distant x xs (f x refl) ps
+abbrev pub nearer_of : Float → code.Candidate → Float
+nearer_of d x = fmin d x.distance_m
 
-  -- the least distance of those of the first k rows that pass
-  module _ (k : ℕ) (l : k < row_count s i) (least : Float) (so : EqualAmounts least (nearest (sorted (row_candidate s c i) k))) where
-    pub least_none : row_candidate s c i k ≡ none → EqualAmounts least (nearest (sorted (row_candidate s c i) (k + 1)))
-    least_none e = rw (sorted_none (row_candidate s c i) k e) so
+pub infinity_is : of_bits binary64 0x7ff0_0000_0000_0000 ≡ infinity
+unfolding of_bits
+infinity_is = refl
 
-    module _ (x : Candidate) (e : row_candidate s c i k ≡ some x) where
-      after : rank (nearest (sorted (row_candidate s c i) (k + 1))) ≡ min (rank least) (rank x.distance_m)
-      after = ap (λ (xs : List Candidate). rank (nearest xs)) (sorted_some (row_candidate s c i) k x e)
-          ∙ insert_rank x (sorted (row_candidate s c i) k) (row_distant k l x e) (sorted_distant k (omega arith)) ∙ rw (alike_rank so)
+-- ---- a point's candidates
 
-      held : Amount (nearest (sorted (row_candidate s c i) (k + 1)))
-      held = nearest_amount _ (sorted_distant (k + 1) (omega arith))
+fold_map : {A B C : Type 0} (f : A → B) (g : C → B → C) (b : C) (xs : List A) → fold g b (map f xs) ≡ fold (λ d x. g d (f x)) b xs
+unfolding fold
+fold_map f g b [] = refl
+fold_map f g b (x ∷ xs) = fold_map f g (g b (f x)) xs
 
-      pub least_nearer : lt x.distance_m least ≡ true → EqualAmounts x.distance_m (nearest (sorted (row_candidate s c i) (k + 1)))
-      least_nearer t = alike _ _ (row_distant k l x e) held (omega (arith, after, less least x.distance_m so.left (row_distant k l x e) t))
+-- the least distance by the code's records
+pub least_is : (xs : List Candidate) → least_of (map by_number xs) ≡ nearest xs
+unfolding least_of nearest
+least_is xs = fold_map by_number (λ d x. fmin d x.distance_m) infinity xs
 
-      pub least_kept : lt x.distance_m least ≡ false → EqualAmounts least (nearest (sorted (row_candidate s c i) (k + 1)))
-      least_kept t = alike _ _ so.left held (omega (arith, after, not_less least x.distance_m so.left (row_distant k l x e) t))
+module _ (t : Sheet) (i : ℕ) (ps : Every Distant (kept_at t i)) where
+  -- where all that pass are kept
+  pub all_kept : length (kept_at t i) ≤ t.settings.max_candidates → EqualAmounts (nearest (kept_at t i)) (nearest (candidates_at t i))
+  all_kept le =
+      let is : candidates_at t i ≡ passing_at t i = candidates_cut t i ∙ take_all t.settings.max_candidates (passing_at t i) (omega (arith, length_sort better (kept_at t i))) in
+      rw is (nearest_sorted (kept_at t i) ps)
 
-pub least_begin : (s : List ℕ) (c : Counts) (i : ℕ) (d : Float) → d ≡ infinity → EqualAmounts d (nearest (sorted (row_candidate s c i) 0))
-unfolding sorted nearest fold
-least_begin s c i d e = rw e (alike infinity infinity infinity_amount infinity_amount refl)
+  candidates_distant : Every Distant (candidates_at t i)
+  candidates_distant x m = ps x (in_sort better (kept_at t i) (in_take t.settings.max_candidates (passing_at t i) (rw (candidates_cut t i) at m)))
+
+  pub away_amount : Amount (nearest (candidates_at t i))
+  away_amount = nearest_amount (candidates_at t i) candidates_distant

@@ -8,6 +8,7 @@ use mathlib.Core.List.{List, [], ◌∷◌, map}
 use native.Mathlib.Nat.{le_refl}
 use native.Mathlib.Numerals.{add-one}
 use native.Mathlib.Omega.{arith}
+use Rattle.std.specs.Prelude.{Ok}
 use lib.Dec.{T}
 use lib.ListN.{length}
 use lib.Ieee.{Float, lt, le}
@@ -16,24 +17,20 @@ use Rattle.model.specs.declared.Counts.{Counts}
 use Rattle.model.specs.declared.Settings.{Settings}
 use Rattle.model.specs.Numbers.{infinity}
 use Rattle.model.specs.Lists.{maybe, tabulate}
-use Rattle.model.specs.Judge.{WellFormed, row_count, rows_before}
+use Rattle.model.specs.Judge.{WellFormed}
 use Rattle.model.specs.Sheet.{sheet_of}
 use Rattle.model.specs.Candidates.{Candidate, nearest, Closest, closest, closest_point}
 use Rattle.model.specs.Decode.{first_empty}
-use Rattle.model.proofs.Members.{here, in_take, in_tab, length_tab, Every}
-use Rattle.model.proofs.RowSums.{before_none, before_next}
+use Rattle.model.proofs.Members.{here, in_tab, length_tab, Every}
 use Rattle.sheet.proofs.Parts.{map_tab}
-use Rattle.bounds.specs.Amounts.{Amount}
+use Rattle.bounds.specs.Amounts.{Amount, Finite}
 use Rattle.bounds.proofs.Rank.{rank, le_rank, rank_le, nle_rank}
-use Rattle.bounds.proofs.AmountLaws.{finite_amount}
-use Rattle.candidates.specs.declared.closest.Points.TheVariants.{Fine, NoCandidate}
 use Rattle.candidates.specs.Found.{candidates_at}
-use Rattle.candidates.specs.Points.{candidates_of, close_enough, judge_points, points_of}
+use Rattle.candidates.specs.Points.{candidates_of, no_candidate_of, close_enough, judge_points, points_of}
 use Rattle.candidates.specs.Nearest.{EqualAmounts}
-use Rattle.candidates.proofs.Ranked.{lt_is}
-use Rattle.candidates.proofs.SheetFacts.{most_finite}
-use Rattle.candidates.proofs.Gathered.{cut_is}
-use Rattle.candidates.proofs.Distances.{alike, alike_rank, infinity_amount, finite_below, less, not_less, Distant, nearest_amount, sorted_distant}
+use Rattle.candidates.proofs.Ranked.{lt_is, below_rank, not_below_rank}
+use Rattle.candidates.proofs.Kept.{kept_distant}
+use Rattle.candidates.proofs.Distances.{alike, alike_rank, infinity_amount, finite_below, away_amount}
 use Rattle.candidates.proofs.Rules.{candidates_are}
 
 front_of : {A : Type 0} (f : ℕ → A) (n i : ℕ) → i < n → tabulate (n - i) i f ≡ f i ∷ tabulate (n - (i + 1)) (i + 1) f
@@ -68,8 +65,8 @@ closer_low : (i : ℕ) (best : Closest) (d : Float) → Amount best.distance →
 closer_low i best d p q = go (lt d best.distance) refl
   where
     go : (t : Bool) → lt d best.distance ≡ t → (let b : Closest = cond t (record { point = i; distance = d }) best in Amount b.distance × (rank b.distance ≤ rank best.distance) × (rank b.distance ≤ rank d))
-    go true e = (q, omega (arith, less best.distance d p q e), le_refl _)
-    go false e = (p, le_refl _, not_less best.distance d p q e)
+    go true e = (q, omega (arith, below_rank d best.distance q p e), le_refl _)
+    go false e = (p, le_refl _, not_below_rank d best.distance q p e)
 
 closest_low : (i : ℕ) (best : Closest) (ds : List Float) → Amount best.distance → Every Amount ds → Amount (closest i best ds).distance × (rank (closest i best ds).distance ≤ rank best.distance)
 unfolding closest
@@ -79,50 +76,37 @@ closest_low i best (d ∷ ds) p ps =
     let w = closest_low (suc i) (closer i best d) ds one.0 (λ z m. ps z (Memᴰ.tail m)) in
     (w.0, omega (arith, one.1, w.1))
 
-module _ (s : List ℕ) (c : Counts) (ok : WellFormed s c) (set : Settings) (es : set ≡ (sheet_of s c).settings) where
-  abbrev most : Float
-  most = set.max_candidate_distance_m
-
+module _ (s : List ℕ) (c : Counts) (most : Float) where
   abbrev away_of : ℕ → Float
   away_of i = nearest (candidates_at (sheet_of s c) i)
-
-  most_amount : Amount most
-  most_amount = rw es (finite_amount _ (most_finite s c ok))
-
-  pub away_amount : (i : ℕ) → i < c.p → Amount (nearest (candidates_at (sheet_of s c) i))
-  away_amount i h = nearest_amount _ (subst (Every Distant) (cut_is s c i h) (λ x m. sorted_distant s c i h ok (row_count s i) (le_refl _) x (in_take (sheet_of s c).settings.max_candidates _ m)))
 
   distances_are : map nearest (candidates_of (sheet_of s c)) ≡ tabulate c.p 0 away_of
   distances_are = ap (map nearest) (candidates_are s c) ∙ map_tab nearest (candidates_at (sheet_of s c)) c.p 0
 
   -- Before point i, with the least distance so far and its point: none is near enough yet, and the nearest from there on is that of all points.
-  pub record SoFar (i at first : ℕ) (least : Float) : Type 0 where
-    pub within : i ≤ c.p
-    pub begins : first ≡ rows_before s i
+  pub record SoFar (i at : ℕ) (least : Float) : Type 0 where
     pub best : Closest
     pub point : at ≡ best.point
     pub same : EqualAmounts least best.distance
-    pub far : rank set.max_candidate_distance_m < rank best.distance
+    pub far : rank most < rank best.distance
     pub rest : closest i best (tabulate (c.p - i) i (λ j. nearest (candidates_at (sheet_of s c) j))) ≡ closest_point (candidates_of (sheet_of s c))
 
-  pub begun : (least : Float) → least ≡ infinity → SoFar 0 0 0 least
+  pub begun : Finite most → SoFar 0 0 infinity
   unfolding closest_point
-  begun least e = record {
-    within = omega arith;
-    begins = sym (before_none s);
+  begun f = record {
     best = record { point = 0; distance = infinity };
     point = refl;
-    same = rw e (alike infinity infinity infinity_amount infinity_amount refl);
-    far = rw es (finite_below _ (most_finite s c ok));
+    same = alike infinity infinity infinity_amount infinity_amount refl;
+    far = finite_below most f;
     rest = let z : c.p - 0 ≡ c.p = omega arith in rw (z, distances_are);
   }
 
-  module _ (i at first : ℕ) (least : Float) (so : SoFar i at first least) where
-    module _ (h : i < c.p) (d : Float) (same : EqualAmounts d (nearest (candidates_at (sheet_of s c) i))) where
+  module _ (i at : ℕ) (least : Float) (so : SoFar i at least) (most_amount : Amount most) where
+    module _ (ok : WellFormed s c) (h : i < c.p) (d : Float) (same : EqualAmounts d (nearest (candidates_at (sheet_of s c) i))) where
       later : Every Amount (tabulate (c.p - (i + 1)) (i + 1) away_of)
       later x m =
           let w = in_tab (c.p - (i + 1)) (i + 1) away_of m in
-          subst Amount w.2 (away_amount (i + 1 + w.0) (omega (arith, w.1)))
+          subst Amount w.2 (away_amount (sheet_of s c) (i + 1 + w.0) (kept_distant s c (i + 1 + w.0) (omega (arith, w.1)) ok))
 
       onward : closest (i + 1) (closer i so.best (away_of i)) (tabulate (c.p - (i + 1)) (i + 1) away_of) ≡ closest_point (candidates_of (sheet_of s c))
       unfolding closest
@@ -131,7 +115,7 @@ module _ (s : List ℕ) (c : Counts) (ok : WellFormed s c) (set : Settings) (es 
       low : Amount (closer i so.best (away_of i)).distance × (rank (closer i so.best (away_of i)).distance ≤ rank so.best.distance) × (rank (closer i so.best (away_of i)).distance ≤ rank (away_of i))
       low = closer_low i so.best (away_of i) so.same.right same.right
 
-      pub near : le d most ≡ true → Fine ≡ close_enough set.max_candidate_distance_m (candidates_of (sheet_of s c))
+      pub near : le d most ≡ true → Ok tt ≡ close_enough most (candidates_of (sheet_of s c))
       unfolding close_enough
       near t =
           let all = closest_low (i + 1) (closer i so.best (away_of i)) (tabulate (c.p - (i + 1)) (i + 1) away_of) low.0 later in
@@ -147,60 +131,53 @@ module _ (s : List ℕ) (c : Counts) (ok : WellFormed s c) (set : Settings) (es 
         beyond : rank most < rank (away_of i)
         beyond = rw (alike_rank same) at (nle_rank d most same.left most_amount (subst (λ (b : Bool). T (not b)) (sym far) tt))
 
-        begins : first + row_count s i ≡ rows_before s (i + 1)
-        begins = sym (before_next s i ∙ rw so.begins)
-
-        pub passed_closer : lt d least ≡ true → SoFar (i + 1) i (first + row_count s i) d
+        pub passed_closer : lt d least ≡ true → SoFar (i + 1) i d
         passed_closer t =
             let e : closer i so.best (away_of i) ≡ record { point = i; distance = away_of i } = rw (sym test ∙ t) in
-            record { within = omega arith; begins = begins; best = record { point = i; distance = away_of i }; point = refl; same = same; far = beyond; rest = rw e at onward }
+            record { best = record { point = i; distance = away_of i }; point = refl; same = same; far = beyond; rest = rw e at onward }
 
-        pub passed_farther : lt d least ≡ false → SoFar (i + 1) at (first + row_count s i) least
+        pub passed_farther : lt d least ≡ false → SoFar (i + 1) at least
         passed_farther t =
             let e : closer i so.best (away_of i) ≡ so.best = rw (sym test ∙ t) in
-            record { within = omega arith; begins = begins; best = so.best; point = so.point; same = so.same; far = so.far; rest = rw e at onward }
+            record { best = so.best; point = so.point; same = so.same; far = so.far; rest = rw e at onward }
 
-    pub too_far : c.p ≤ i → NoCandidate at ≡ close_enough set.max_candidate_distance_m (candidates_of (sheet_of s c))
+    pub too_far : c.p ≤ i → no_candidate_of at ≡ close_enough most (candidates_of (sheet_of s c))
     unfolding close_enough closest
     too_far h =
         let is : closest_point (candidates_of (sheet_of s c)) ≡ so.best = sym so.rest ∙ ap (closest i so.best) (past away_of c.p i h) in
         let e = above so.best.distance most so.same.right most_amount so.far in
-        ap NoCandidate so.point ∙ sym (rw (is, e))
+        ap no_candidate_of so.point ∙ sym (rw (is, e))
 
 -- ---- whether each has one
 
 module _ (s : List ℕ) (c : Counts) where
   -- Before point i: none is empty yet.
-  pub record Filled (i first : ℕ) : Type 0 where
-    pub within : i ≤ c.p
-    pub begins : first ≡ rows_before s i
+  pub record Filled (i : ℕ) : Type 0 where
     pub rest : first_empty i (tabulate (c.p - i) i (candidates_at (sheet_of s c))) ≡ first_empty 0 (candidates_of (sheet_of s c))
 
-  pub filled_none : Filled 0 0
-  filled_none = record { within = omega arith; begins = sym (before_none s); rest = let z : c.p - 0 ≡ c.p = omega arith in rw (z, candidates_are s c) }
+  pub filled_none : Filled 0
+  filled_none = record { rest = let z : c.p - 0 ≡ c.p = omega arith in rw (z, candidates_are s c) }
 
-  judged : 0 < c.p → points_of (sheet_of s c) ≡ maybe (first_empty 0 (candidates_of (sheet_of s c))) (close_enough (sheet_of s c).settings.max_candidate_distance_m (candidates_of (sheet_of s c))) NoCandidate
+  judged : 0 < c.p → points_of (sheet_of s c) ≡ maybe (first_empty 0 (candidates_of (sheet_of s c))) (close_enough (sheet_of s c).settings.max_candidate_distance_m (candidates_of (sheet_of s c))) no_candidate_of
   unfolding points_of judge_points
   judged h = go (candidates_of (sheet_of s c)) (ap length (candidates_are s c) ∙ length_tab c.p 0 (candidates_at (sheet_of s c)))
     where
-      go : (cs : List (List Candidate)) → length cs ≡ c.p → judge_points (sheet_of s c).settings.max_candidate_distance_m cs ≡ maybe (first_empty 0 cs) (close_enough (sheet_of s c).settings.max_candidate_distance_m cs) NoCandidate
+      go : (cs : List (List Candidate)) → length cs ≡ c.p → judge_points (sheet_of s c).settings.max_candidate_distance_m cs ≡ maybe (first_empty 0 cs) (close_enough (sheet_of s c).settings.max_candidate_distance_m cs) no_candidate_of
       go [] e = absurd (omega arith)
       go (xs ∷ rest) e = refl
 
-  module _ (i first : ℕ) (so : Filled i first) where
+  module _ (i : ℕ) (so : Filled i) where
     module _ (h : i < c.p) where
-      pub empty : length (candidates_at (sheet_of s c) i) ≤ 0 → NoCandidate i ≡ points_of (sheet_of s c)
+      pub empty : length (candidates_at (sheet_of s c) i) ≤ 0 → no_candidate_of i ≡ points_of (sheet_of s c)
       unfolding first_empty maybe
       empty z =
           let none : candidates_at (sheet_of s c) i ≡ [] = sym (take_all 0 (candidates_at (sheet_of s c) i) z) in
           let e : first_empty 0 (candidates_of (sheet_of s c)) ≡ some i = sym so.rest ∙ ap (first_empty i) (front_of (candidates_at (sheet_of s c)) c.p i h) ∙ rw (none, first_empty) in
           sym (judged (omega arith) ∙ rw e)
 
-      pub filled : 0 < length (candidates_at (sheet_of s c) i) → Filled (i + 1) (first + row_count s i)
+      pub filled : 0 < length (candidates_at (sheet_of s c) i) → Filled (i + 1)
       unfolding first_empty
       filled g = record {
-        within = omega arith;
-        begins = sym (before_next s i ∙ rw so.begins);
         rest = go (candidates_at (sheet_of s c) i) g ∙ sym (ap (first_empty i) (front_of (candidates_at (sheet_of s c)) c.p i h)) ∙ so.rest;
       }
         where

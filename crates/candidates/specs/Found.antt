@@ -1,18 +1,19 @@
 -- The candidates of a point of the parsed sheet, those of them that a leg tries, and the code's records of them.
-use Rattle.std.specs.Prelude.{ℕ, ◌≤◌, ◌<◌, min, ◌≡◌, false, List, [], map, length, take, get_or, T}
+use Rattle.std.specs.Prelude.{ℕ, ◌≤◌, ◌<◌, ◌≡◌, Bool, false, cond, List, [], map, length, take, get_or, T, Option, Some, None}
 use Rattle.std.specs.Float.{nan}
 use Rattle.std.specs.Float.Ieee.{le}
 use Rattle.model.specs.declared.Counts.{Counts}
 use Rattle.model.specs.declared.Road.{Road}
-use Rattle.model.specs.Numbers.{f0}
+use Rattle.model.specs.declared.Settings.{Settings}
+use Rattle.model.specs.Numbers.{f0, ◌<ᶠ◌}
 use Rattle.model.specs.Sheet.{MeasuredPoint, Sheet, road_at}
-use Rattle.model.specs.Lists.{sort, filter_map}
+use Rattle.model.specs.Layout.{most_measured}
+use Rattle.model.specs.Lists.{In, sort, filter_map}
 use Rattle.model.specs.View.{projection_of, projected_point}
-use Rattle.model.specs.Candidates.{Candidate, candidate, better, find_candidates}
+use Rattle.model.specs.Candidates.{Candidate, candidate, passes, better, find_candidates}
 use Rattle.model.specs.Legs.{most_tried}
 use Rattle.bounds.specs.Amounts.{Amount}
 use Rattle.candidates.specs.declared.candidate.Candidate as code
-use Rattle.candidates.specs.declared.find.Candidates.{Candidates}
 
 -- past the last point: a point without rows
 abbrev pub no_point : MeasuredPoint
@@ -21,9 +22,13 @@ no_point = record { point = record { dnp = f0; bearing = 0; frc = 0; fow = 0; li
 abbrev pub point_at : Sheet → ℕ → MeasuredPoint
 point_at t i = get_or t.points i no_point
 
+-- those that pass, in the order of their rows
+unfoldable pub kept_at : Sheet → ℕ → List Candidate
+kept_at t i = filter_map (candidate t.settings (point_at t i).point) (map (projection_of t) (point_at t i).rows)
+
 -- those that pass, in order
-unfoldable pub passing_at : Sheet → ℕ → List Candidate
-passing_at t i = sort better (filter_map (candidate t.settings (point_at t i).point) (map (projection_of t) (point_at t i).rows))
+abbrev pub passing_at : Sheet → ℕ → List Candidate
+passing_at t i = sort better (kept_at t i)
 
 unfoldable pub candidates_at : Sheet → ℕ → List Candidate
 candidates_at t i = find_candidates t.settings (projected_point t (point_at t i))
@@ -61,11 +66,28 @@ no_candidate = record {
 abbrev pub no_item : code.Candidate
 no_item = by_number no_candidate
 
--- ---- those that a leg tries
+abbrev pub item_at : List code.Candidate → ℕ → code.Candidate
+item_at xs k = get_or xs k no_item
 
--- how many of n
-abbrev pub tried : ℕ → ℕ
-tried n = min most_tried n
+-- what the code makes of one, if it passes
+abbrev pub if_passes : Settings → Candidate → Option code.Candidate
+if_passes c x = cond (passes c x) (Some (by_number x)) None
+
+-- no more than a point may have rows, with scores and distances that are amounts
+pub record Measured (xs : List code.Candidate) : Type 0 where
+  pub few : length xs ≤ most_measured
+  pub amounts : (x : code.Candidate) → In x xs → Amount x.score × Amount x.distance_m
+
+-- scores are amounts and never fall
+pub record Rising (xs : List code.Candidate) : Type 0 where
+  pub amounts : (k : ℕ) → k < length xs → Amount (item_at xs k).score
+  pub rise : (j k : ℕ) → j < k → k < length xs → T (le (item_at xs j).score (item_at xs k).score)
+
+-- a has the lower score
+abbrev pub lower : code.Candidate → code.Candidate → Bool
+lower a b = a.score <ᶠ b.score
+
+-- ---- those that a leg tries
 
 abbrev pub tried_at : Sheet → ℕ → List Candidate
 tried_at t i = take most_tried (candidates_at t i)
@@ -77,21 +99,16 @@ abbrev pub at_road : Sheet → code.Candidate → Candidate
 at_road t x = on (road_at t x.edge_idx) x
 
 -- those that xs holds
-unfoldable pub held : Sheet → Candidates → List Candidate
-held t xs = map (at_road t) (take xs.count xs.items)
-
-abbrev pub item_at : Candidates → ℕ → code.Candidate
-item_at xs k = get_or xs.items k no_item
+unfoldable pub held : Sheet → List code.Candidate → List Candidate
+held t xs = map (at_road t) xs
 
 -- at most ten, on roads of the sheet, with scores that are amounts and never fall
-pub record CandidatesReady (c : Counts) (xs : Candidates) : Type 0 where
-  pub few : xs.count ≤ most_tried
-  pub room : xs.count ≤ length xs.items
-  pub named : (k : ℕ) → k < xs.count → (item_at xs k).edge_idx < c.e
-  pub amounts : (k : ℕ) → k < xs.count → Amount (item_at xs k).score
-  pub rise : (j k : ℕ) → j < k → k < xs.count → T (le (item_at xs j).score (item_at xs k).score)
+pub record CandidatesReady (c : Counts) (xs : List code.Candidate) : Type 0 where
+  pub few : length xs ≤ most_tried
+  pub named : (k : ℕ) → k < length xs → (item_at xs k).edge_idx < c.e
+  pub rising : Rising xs
 
 -- xs holds those of point i that a leg tries
-pub record CandidatesOf (t : Sheet) (c : Counts) (i : ℕ) (xs : Candidates) : Type 0 where
+pub record CandidatesOf (t : Sheet) (c : Counts) (i : ℕ) (xs : List code.Candidate) : Type 0 where
   pub are : held t xs ≡ tried_at t i
   pub ready : CandidatesReady c xs

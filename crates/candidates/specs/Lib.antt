@@ -2,3 +2,4 @@
 pub mod Found
 pub mod Nearest
 pub mod Points
+pub mod Rows

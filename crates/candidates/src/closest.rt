@@ -1,24 +1,17 @@
 // Whether every point has a candidate, and the nearest one of all is near enough: without candidates where that can be told by the rows.
 ghost use Rattle.std.specs.Prelude.{◌≡◌, ◌≤◌, ◌<◌, ltb, length};
-ghost use Rattle.model.specs.Numbers.{infinity};
-ghost use Rattle.model.specs.Layout.{most_measured};
-ghost use Rattle.model.specs.Judge.{WellFormed, rows_before};
-ghost use Rattle.model.specs.Sheet.{sheet_of};
 ghost use Rattle.model.specs.Candidates.{nearest};
-ghost use Rattle.candidates.specs.Found.{candidates_at};
+ghost use Rattle.sheet.specs.Contents.{contents};
+ghost use Rattle.candidates.specs.Found.{candidates_at, Measured};
 ghost use Rattle.candidates.specs.Points.{candidates_of, close_enough, points_of};
-ghost use Rattle.candidates.specs.Nearest.{EqualAmounts, Looked, InOrder, least_of};
+ghost use Rattle.candidates.specs.Nearest.{EqualAmounts, least_of, seen_of};
 
-use crate::candidate;
-use model::{Counts, MOST_MEASURED, Settings};
-use sheet::{points, roads};
-
-// The points are fine, or refusal 9 names this one.
-#[derive(Clone, Copy)]
-pub enum Points {
-    Fine,
-    NoCandidate(usize),
-}
+use crate::best::Best;
+use crate::candidate::Candidate;
+use crate::passing::Passing;
+use model::error::DecodeError;
+use model::{MOST_MEASURED, Settings};
+use sheet::Sheet;
 
 // The most rows of a point that pass: all that it may have.
 const MOST_PASSING: usize = MOST_MEASURED as usize;
@@ -30,188 +23,96 @@ pub struct Seen {
     pub least: f64,
 }
 
-// What decides whether a row is kept, and how near it is.
-#[derive(Clone, Copy)]
-pub struct Away {
-    pub score: f64,
-    pub distance: f64,
-}
-
-// The rows of a point that pass, best first.
-#[derive(Clone, Copy)]
-pub struct Aways {
-    pub count: usize,
-    pub items: [Away; MOST_PASSING],
-}
-
-// Past every distance.
-fn infinity() -> f64
-    ensures { result ≡ infinity }
+// Whether point i has a candidate: the first row that passes settles it.
+#[tactic(auto, using(crate::proofs::Listed::none_wanted, crate::proofs::Listed::first_asked))]
+fn has_candidate(sheet: &Sheet<'_>, settings: &Settings, i: usize) -> bool
+    requires { (i < sheet.now.counts.p) × (settings.now ≡ (contents sheet.now).settings) }
+    ensures { result ≡ ltb 0 (length (candidates_at (contents sheet.now) i)) }
 {
-    f64::from_bits(0x7ff0_0000_0000_0000)
+    let wanted = 0 < settings.max_candidates;
+    wanted && Passing::new(sheet, i).next().is_some()
 }
 
-// Whether point i, whose rows begin at `first`, has a candidate: the first row that passes settles it.
-fn has_candidate(s: &[u8], c: Counts, set: Settings, i: usize, first: usize) -> bool
-    requires { WellFormed s.now c × (i < c.p) × (set ≡ (sheet_of s.now c).settings) × (first ≡ rows_before s.now i) }
-    ensures { result ≡ ltb 0 (length (candidates_at (sheet_of s.now c) i)) }
+// How many rows are left, and the least distance of these; infinity where there is none.
+#[tactic(auto, using(crate::proofs::Distances::infinity_is), unfolding(model::specs::Lists::fold, model::specs::Numbers::fmin, crate::specs::Nearest::least_of))]
+fn look(rows: Passing<'_>) -> Seen
+    requires { Measured rows }
+    ensures { result ≡ seen_of rows.entry }
 {
-    let p = points::point(s, c, i);
-    let all = points::row_count(s, c, i);
-    let mut k = 0;
-    while k < all {
-        let w = points::row(s, c, first + k);
-        let road = w.road;
-        let r = roads::road(s, c, road);
-        if candidate::passes(set, p, w, r) {
-            return 0 < set.max_candidates;
-        }
-        k += 1;
-    }
-    false
-}
-
-// How many rows of point i pass, and the least distance of these; infinity where there is none.
-fn look(s: &[u8], c: Counts, set: Settings, i: usize, first: usize) -> Seen
-    requires { WellFormed s.now c × (i < c.p) × (set ≡ (sheet_of s.now c).settings) × (first ≡ rows_before s.now i) }
-    ensures { Looked (sheet_of s.now c) i result }
-{
-    let p = points::point(s, c, i);
-    let all = points::row_count(s, c, i);
     let mut passing = 0;
-    let mut least = infinity();
-    let mut k = 0;
-    while k < all {
-        let w = points::row(s, c, first + k);
-        let road = w.road;
-        let r = roads::road(s, c, road);
-        if candidate::passes(set, p, w, r) {
-            passing += 1;
-            if w.distance_m < least {
-                least = w.distance_m;
-            }
+    let mut least = f64::INFINITY;
+    for x in rows {
+        passing += 1;
+        if x.distance_m < least {
+            least = x.distance_m;
         }
-        k += 1;
     }
     Seen { passing, least }
 }
 
-// The rows of point i that pass, best first. Those of equal scores keep their order, which is that of their roads' numbers.
-fn order_rows(s: &[u8], c: Counts, set: Settings, i: usize, first: usize) -> Aways
-    requires { WellFormed s.now c × (i < c.p) × (set ≡ (sheet_of s.now c).settings) × (first ≡ rows_before s.now i) }
-    ensures { InOrder (sheet_of s.now c) i result }
+// The least distance of some candidates.
+#[tactic(auto, using(crate::proofs::Distances::infinity_is), unfolding(model::specs::Lists::fold, model::specs::Numbers::fmin, crate::specs::Nearest::least_of))]
+fn least_of(xs: &[Candidate]) -> f64
+    ensures { result ≡ least_of xs.now }
 {
-    let p = points::point(s, c, i);
-    let all = points::row_count(s, c, i);
-    let nothing = Away {
-        score: 0.0,
-        distance: 0.0,
-    };
-    let mut items = [nothing; MOST_PASSING];
-    let mut count = 0;
-    let mut k = 0;
-    while k < all {
-        let w = points::row(s, c, first + k);
-        let road = w.road;
-        let r = roads::road(s, c, road);
-        if candidate::passes(set, p, w, r) {
-            let score = candidate::candidate_score(set, p, w, r);
-            let x = Away {
-                score,
-                distance: w.distance_m,
-            };
-            let mut j = count;
-            'shift: while 0 < j {
-                let y = items[j - 1];
-                if !(x.score < y.score) {
-                    break 'shift;
-                }
-                items[j] = y;
-                j -= 1;
-            }
-            items[j] = x;
-            count += 1;
+    let mut least = f64::INFINITY;
+    for x in xs {
+        if x.distance_m < least {
+            least = x.distance_m;
         }
-        k += 1;
-    }
-    Aways { count, items }
-}
-
-// The least distance of the first n of them.
-fn least_of(xs: Aways, n: usize) -> f64
-    requires { n ≤ most_measured }
-    ensures { result ≡ least_of xs n }
-{
-    let mut least = infinity();
-    let mut k = 0;
-    while k < n {
-        let y = xs.items[k];
-        if y.distance < least {
-            least = y.distance;
-        }
-        k += 1;
     }
     least
 }
 
 // The least distance of point i's candidates. Where no more rows pass than there may be candidates, every one of them is kept and no order is needed.
-fn nearest(s: &[u8], c: Counts, set: Settings, i: usize, first: usize) -> f64
-    requires { WellFormed s.now c × (i < c.p) × (set ≡ (sheet_of s.now c).settings) × (first ≡ rows_before s.now i) }
-    ensures { EqualAmounts result (nearest (candidates_at (sheet_of s.now c) i)) }
+fn nearest(sheet: &Sheet<'_>, settings: &Settings, i: usize) -> f64
+    requires { (i < sheet.now.counts.p) × (settings.now ≡ (contents sheet.now).settings) }
+    ensures { EqualAmounts result (nearest (candidates_at (contents sheet.now) i)) }
 {
-    let all = look(s, c, set, i, first);
-    let most = set.max_candidates as usize;
+    let all = look(Passing::new(sheet, i));
+    let most = usize::from(settings.max_candidates);
     let uncut = all.passing <= most;
     if uncut {
         return all.least;
     }
-    let xs = order_rows(s, c, set, i, first);
-    least_of(xs, most)
+    let best: Best<MOST_PASSING> = Best::of(Passing::new(sheet, i), most);
+    least_of(best.as_slice())
 }
 
 // One near candidate settles the rule; else it names the point whose nearest candidate is the nearest of all, the first if equal.
-fn close_enough(s: &[u8], c: Counts, set: Settings) -> Points
-    requires { WellFormed s.now c × (set ≡ (sheet_of s.now c).settings) }
-    ensures { result ≡ close_enough set.max_candidate_distance_m (candidates_of (sheet_of s.now c)) }
+#[tactic(auto, using(crate::proofs::Distances::infinity_is, crate::proofs::SheetFacts::most_finite, bounds::proofs::AmountLaws::finite_amount, crate::proofs::Pointwise::begun, crate::proofs::Pointwise::passed_closer, crate::proofs::Pointwise::passed_farther))]
+fn close_enough(sheet: &Sheet<'_>, settings: &Settings) -> Result<(), DecodeError>
+    requires { settings.now ≡ (contents sheet.now).settings }
+    ensures { result ≡ close_enough settings.now.max_candidate_distance_m (candidates_of (contents sheet.now)) }
 {
-    let mut least = infinity();
-    let mut at = 0;
-    let mut first = 0;
-    let mut i = 0;
-    while i < c.p {
-        let d = nearest(s, c, set, i, first);
-        if d <= set.max_candidate_distance_m {
-            return Points::Fine;
+    let mut least = f64::INFINITY;
+    let mut index = 0;
+    for i in 0..sheet.counts.p {
+        let d = nearest(sheet, settings, i);
+        if d <= settings.max_candidate_distance_m {
+            return Ok(());
         }
         if d < least {
             least = d;
-            at = i;
+            index = i;
         }
-        let rows = points::row_count(s, c, i);
-        first += rows;
-        i += 1;
     }
-    Points::NoCandidate(at)
+    Err(DecodeError::NoCandidates { index })
 }
 
 // The first point without a candidate; else what the closest-candidate rule says, if there are points.
-pub fn require_close_candidate(s: &[u8], c: Counts) -> Points
-    requires { WellFormed s.now c }
-    ensures { result ≡ points_of (sheet_of s.now c) }
+#[tactic(auto, using(crate::proofs::Pointwise::filled_none, crate::proofs::Pointwise::filled, crate::proofs::Pointwise::empty, crate::proofs::Rules::no_points))]
+pub fn require_close_candidate(sheet: &Sheet<'_>) -> Result<(), DecodeError>
+    ensures { result ≡ points_of (contents sheet.now) }
 {
-    let set = points::settings(s, c);
-    let mut first = 0;
-    let mut i = 0;
-    while i < c.p {
-        if !has_candidate(s, c, set, i, first) {
-            return Points::NoCandidate(i);
+    let settings = sheet.settings();
+    for index in 0..sheet.counts.p {
+        if !has_candidate(sheet, &settings, index) {
+            return Err(DecodeError::NoCandidates { index });
         }
-        let rows = points::row_count(s, c, i);
-        first += rows;
-        i += 1;
     }
-    if i == 0 {
-        return Points::Fine;
+    if sheet.counts.p == 0 {
+        return Ok(());
     }
-    close_enough(s, c, set)
+    close_enough(sheet, &settings)
 }

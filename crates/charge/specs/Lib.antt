@@ -1,5 +1,6 @@
 -- Request W12: what a path costs, in its order.
 pub mod Metres
 pub mod Roads
+pub mod Outcome
 pub mod Theorems
 pub mod Examples

@@ -7,7 +7,7 @@ use lib.Dec.{T}
 use lib.Ieee.{eq}
 use Rattle.model.specs.declared.Settings.{Settings}
 use Rattle.model.specs.declared.Road.{Road}
-use Rattle.model.specs.declared.Judged.TheVariants.{Fine}
+use Rattle.model.specs.Judge.{Fine}
 use Rattle.model.specs.Numbers.{f0}
 use Rattle.model.specs.Lists.{In}
 use Rattle.model.specs.Judge.{judged}

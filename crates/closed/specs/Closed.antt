@@ -1,7 +1,7 @@
 -- "The words of demand 3", and the demand.
 use Rattle.std.specs.Prelude.{ℕ, ◌+◌, ◌<◌, ◌≡◌, Bool, true, false, not, ◌&&◌, List, [], ◌∷◌, eqb, ltb, Float}
 use Rattle.std.specs.Float.Ieee.{eq}
-use Rattle.model.specs.declared.Judged.TheVariants.{Fine}
+use Rattle.model.specs.Judge.{Fine}
 use Rattle.model.specs.Numbers.{f0}
 use Rattle.model.specs.Lists.{filter, any, all}
 use Rattle.model.specs.Table.{all_of}

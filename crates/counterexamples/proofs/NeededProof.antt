@@ -1,7 +1,7 @@
 -- Each condition of demand 3 is needed, by computing.
 use mathlib.Core.Path.{◌≡◌, refl}
 use mathlib.Core.List.{[], ◌∷◌}
-use Rattle.model.specs.declared.Judged.TheVariants.{Fine}
+use Rattle.model.specs.Judge.{Fine}
 use Rattle.model.specs.Numbers.{nat}
 use Rattle.model.specs.Judge.{judged}
 use Rattle.closed.specs.Closed.{is_closed, AlikeBy, Alike, refusal, match}

@@ -1,7 +1,7 @@
 -- Each condition of demand 3 is needed: two well-formed sheets that meet all others and are answered differently.
 -- Here are the conditions on roads and those for the whole answer; specs/SharpParts.antt has the equal parts. proofs/SharpProof.antt has the proofs, by computing.
 use Rattle.std.specs.Prelude.{ℕ, ◌≡◌, true, false, not, ◌&&◌, ◌||◌, List, [], ◌∷◌, map, eqb}
-use Rattle.model.specs.declared.Judged.TheVariants.{Fine}
+use Rattle.model.specs.Judge.{Fine}
 use Rattle.model.specs.Numbers.{nat}
 use Rattle.model.specs.Lists.{any, all}
 use Rattle.model.specs.Layout.{counts_of, road_bytes}

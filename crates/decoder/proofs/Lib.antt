@@ -1,2 +1,3 @@
-pub mod Opening
 pub mod Calling
+pub mod Judged
+pub mod Opening

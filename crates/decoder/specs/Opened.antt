@@ -1,16 +1,15 @@
 -- The lent areas of a call, and what refusals 1 to 6 leave.
-use Rattle.std.specs.Prelude.{ℕ, ◌/◌, ◌≤◌, min, ◌≡◌, List, length}
+use Rattle.std.specs.Prelude.{ℕ, ◌/◌, ◌≤◌, min, ◌≡◌, List, length, Result, Ok, Err}
 use Rattle.model.specs.declared.Counts.{Counts}
-use Rattle.model.specs.Judge.{WellFormed}
-use Rattle.model.specs.Sheet.{sheet_of}
 use Rattle.model.specs.View.{view}
 use Rattle.model.specs.Search.{bounded_astar}
 use Rattle.model.specs.Decode.{outcome}
-use Rattle.model.specs.Call.{Lists, Lent, answered, most_entries, untouched, decode}
+use Rattle.model.specs.Call.{Lists, Lent, answered, most_entries, decode}
 use Rattle.answers.specs.declared.Sizes.{Sizes}
-use Rattle.answers.specs.Room.{lent_of}
-use Rattle.decoder.specs.declared.Opened.{Opened}
-use Rattle.decoder.specs.declared.Opened.TheVariants as O
+use Rattle.answers.specs.Room.{lent_of, answer_of}
+use Rattle.model.specs.declared.error.DecodeError.{DecodeError}
+use Rattle.sheet.specs.declared.Sheet.{Sheet}
+use Rattle.sheet.specs.Contents.{contents}
 
 -- what a call is lent, slice by slice: how many numbers each slice of a work area holds, and the answer lists
 pub record Slices : Type 0 where
@@ -43,7 +42,7 @@ pub record Room (c : Counts) (a : Sizes) : Type 0 where
 abbrev pub OfSizes : Sizes → Lists → Type 0
 OfSizes a l = (length l.ids ≡ a.ids) × (length l.lengths ≡ a.lengths)
 
--- refusals 1 to 6, or on with a well-formed sheet that has room
-unfoldable pub Opens : List ℕ → Sizes → Opened → Type 0
-Opens s a (O.Refused n p) = (l : Lists) → OfSizes a l → decode s (lent_of a l) ≡ untouched n p l
-Opens s a (O.Open c) = WellFormed s c × Room c a × ((l : Lists) → OfSizes a l → decode s (lent_of a l) ≡ answered (sheet_of s c) l (outcome (view (sheet_of s c)) (bounded_astar a.heap)))
+-- refusals 1 to 6, which leave the lists as they are, or on with a well-formed sheet that has room
+unfoldable pub Opens : List ℕ → Sizes → Result Sheet DecodeError → Type 0
+Opens s a (Err e) = (l : Lists) → OfSizes a l → decode s (lent_of a l) ≡ record { answer = answer_of (Err e); lists = l }
+Opens s a (Ok sheet) = Room sheet.counts a × ((l : Lists) → OfSizes a l → decode s (lent_of a l) ≡ answered (contents sheet) l (outcome (view (contents sheet)) (bounded_astar a.heap)))

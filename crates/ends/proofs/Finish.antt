@@ -5,7 +5,7 @@ use mathlib.Core.Path.{◌≡◌, sym, ap, ◌∙◌}
 use mathlib.Core.Option.{some}
 use mathlib.Core.List.{List}
 use lib.ListN.{length, get_or, take}
-use lib.Seq.{length-take-le}
+use lib.Seq.{length-take-le, get_or-take}
 use lib.Ieee.{Float}
 use Rattle.model.specs.Lists.{head, last, maybe}
 use Rattle.model.specs.Sheet.{Sheet, road_at}
@@ -48,7 +48,7 @@ module _ (t : Sheet) (sc ec so eo : Float) (p n e : ℕ) (ids₀ ids₁ ids₂ :
       → FinalHeld t result e (p + 4 * n) ids₂ (record { count = B.count; start_offset = B.offset; start_fraction = a; end_offset = F.offset; end_fraction = z })
   unfolding offset_fraction maybe
   finished {a} {z} u v =
-      let h : head result.path ≡ some (get_or ids₂ 0 0) = ap head (sym path_is) ∙ head_is B.count ids₂ b.some_road (omega (arith, within, b.some_road)) in
+      let h : head result.path ≡ some (get_or ids₂ 0 0) = ap head (sym path_is) ∙ head_is (take B.count ids₂) (omega (arith, length-take-le B.count ids₂ within, b.some_road)) ∙ ap some (get_or-take B.count ids₂ 0 0 b.some_road) in
       let l : last result.path ≡ some (get_or ids₂ (B.count - 1) 0) = ap last (sym path_is) ∙ last_part 0 B.count ids₂ b.some_road within in
       record {
         path = path_is;

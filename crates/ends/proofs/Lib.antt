@@ -1,6 +1,4 @@
-pub mod Meets
-pub mod Snapping
-pub mod Turns
 pub mod Starts
+pub mod Turns
 pub mod Grow
 pub mod Finish

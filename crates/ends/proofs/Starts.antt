@@ -8,19 +8,14 @@ use lib.Ieee.{Float}
 use Rattle.model.specs.Numbers.{◌⊕◌, ◌<ᶠ◌, f0}
 use Rattle.model.specs.Lists.{maybe}
 use Rattle.model.specs.Sheet.{Sheet, road_at}
-use Rattle.model.specs.Ends.{is_valid_node, forced_continuation, forced_predecessor, way, meets, walked, walk, extension}
-use Rattle.ends.specs.First.{first_node, first_way}
+use Rattle.model.specs.Ends.{is_valid_node, way, meets, walked, walk, extension}
+use Rattle.road_network.specs.Graph.{first_node, first_way}
+use Rattle.road_network.proofs.Ways.{way_is}
 
 -- a test between none and none
 either_none : {A : Type 0} (b : Bool) → cond {A = Option A} b none none ≡ none
 either_none true = refl
 either_none false = refl
-
--- a way is forced where the node is not valid
-way_is : (t : Sheet) (forward : Bool) (r : ℕ) → way t forward r ≡ cond (is_valid_node t (first_node t forward r)) none (first_way t forward r)
-unfolding way first_node first_way forced_continuation forced_predecessor
-way_is t true r = refl
-way_is t false r = refl
 
 module _ (t : Sheet) (forward : Bool) (cap : Float) (path : List ℕ) (r : ℕ) where
   none_forced : way t forward r ≡ none → extension t forward cap path r ≡ none

@@ -1,1 +1,1 @@
-pub mod NoNan
+pub mod Chunks

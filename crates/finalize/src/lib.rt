@@ -1,135 +1,103 @@
 // From the path of a reference to its answer: the primary road, the walks at both ends, the answer lists.
 #![tactic(auto)]
 
-ghost use Rattle.std.specs.Prelude.{◌≡◌, ℕ, ◌+◌, ◌*◌, ◌≤◌, ◌<◌, length};
-ghost use Rattle.model.specs.Judge.{WellFormed};
-ghost use Rattle.model.specs.Sheet.{sheet_of, road_at};
+ghost use Rattle.std.specs.Prelude.{◌≡◌, ℕ, ◌+◌, ◌*◌, ◌≤◌, ◌<◌, length, Ok};
+ghost use Rattle.model.specs.Sheet as definition;
+ghost use Rattle.model.specs.Sheet.{road_at};
 ghost use Rattle.model.specs.View.{view};
 ghost use Rattle.model.specs.Search.{bounded_astar};
+ghost use Rattle.model.specs.Refusals.{number_of, place_a, place_b};
 ghost use Rattle.model.specs.Decode.{refused, matched, outcome};
 ghost use Rattle.model.specs.Decode as decode;
-ghost use Rattle.search.specs.Areas.{AnswerRoom};
-ghost use Rattle.model.specs.Call.{answered};
+ghost use Rattle.model.specs.Call.{answered, most_entries};
+ghost use Rattle.sheet.specs.Contents.{contents};
 ghost use Rattle.answers.specs.Room.{lists, decoded};
 ghost use Rattle.search.specs.Answers.{RoadNumbers};
-ghost use Rattle.lines.specs.Legs.{PathWritten};
-ghost use Rattle.location.specs.Reference.{ReferenceOutcome};
+ghost use Rattle.full_path.specs.Left.{coverage_of};
+ghost use Rattle.lines.specs.Legs.{PathWritten, LegsWritten};
 
 use answers::{Answer, Match};
 use ends::caps;
-use full_path::{Primary, coverage};
+use full_path::{Coverages, EdgeCoverage};
 use lines::FullPath;
-use location::Outcome;
-use model::{Counts, Settings};
-use sheet::roads;
+use model::error::DecodeError;
+use sheet::Sheet;
 
 // A refusal's answer: zeros in both lists.
-fn refuse(
-    s: &[u8],
-    c: Counts,
-    n: usize,
-    a: usize,
-    b: usize,
-    covered: &[usize],
-    ids: &mut [u64],
-    lengths: &mut [f64],
-) -> Answer
-    requires { WellFormed s.now c }
-    ensures { decoded result ids.new lengths.new ≡ answered (sheet_of s.now c) (lists ids.old lengths.old) (refused n a b) }
+#[tactic(auto, unfolding(model::specs::Call::answered, model::specs::Call::written, model::specs::Lists::pad, answers::specs::Room::answer_of))]
+fn refuse(e: DecodeError, ids: &mut [u64], lengths: &mut [f64]) -> Answer
+    ensures { (t : definition.Sheet) → decoded result ids.new lengths.new ≡ answered t (lists ids.old lengths.old) (refused (number_of e) (place_a e) (place_b e)) }
 {
-    answers::write_path(s, c, covered, 0, ids, lengths);
-    Answer::Refused(n, a, b)
+    ids.fill(0);
+    lengths.fill(0.0);
+    Err(e)
 }
 
-// A match's answer, with the primary road and its coverage: the path goes from `ids` to `covered`, whose coverages are used up, is walked on at both ends, and comes back into both lists.
+// A match, with the primary road and its coverage: the path goes from `ids` to `path`, is walked on at both ends, and comes back into both lists.
 fn finish_path(
-    s: &[u8],
-    c: Counts,
-    set: Settings,
+    sheet: &Sheet<'_>,
     x: FullPath,
-    road: usize,
-    metres: f64,
-    covered: &mut [usize],
+    primary: EdgeCoverage,
+    path: &mut [usize],
     ids: &mut [u64],
     lengths: &mut [f64],
-) -> Answer
-    requires well_formed { WellFormed s.now c × (set ≡ (sheet_of s.now c).settings) × (road < c.e) × (0 < x.written) × RoadNumbers c.e x.written ids.old }
-    requires n_in_bounds { (x.written + 4 * c.n ≤ length covered.old) × (x.written + 4 * c.n ≤ length ids.old) × (x.written + 4 * c.n ≤ length lengths.old) }
+) -> Match
+    requires written { (primary.edge_idx < sheet.now.counts.e) × (0 < x.written) × RoadNumbers sheet.now.counts.e x.written ids.old }
+    requires room { (x.written + 4 * sheet.now.counts.n ≤ length path.old) × (x.written + 4 * sheet.now.counts.n ≤ length ids.old) × (x.written + 4 * sheet.now.counts.n ≤ length lengths.old) }
     ensures { (k : decode.FullPath) → PathWritten k ids.old x
-        → decoded result ids.new lengths.new ≡ answered (sheet_of s.now c) (lists ids.old lengths.old) (matched k (record { road = road_at (sheet_of s.now c) road; coverage_m = metres })) }
+        → decoded (Ok result) ids.new lengths.new ≡ answered (contents sheet.now) (lists ids.old lengths.old) (matched k (coverage_of (contents sheet.now) primary)) }
 {
-    let primary = roads::id(s, c, road);
+    let set = sheet.settings();
     let n = x.written;
-    answers::take_numbers(ids, n, covered);
+    answers::take_numbers(&ids[..n], path);
     let first = x.first;
     let last = x.last;
     let start_cap = caps::snap_cap_m(set, first.expected_m, first.length_m);
     let end_cap = caps::snap_cap_m(set, last.expected_m, last.length_m);
     let f = ends::finalize_path(
-        s,
-        c,
-        covered,
+        sheet,
+        path,
         n,
         start_cap,
         end_cap,
         first.start_offset_m,
         last.end_offset_m,
     );
-    answers::write_path(s, c, covered, f.count, ids, lengths);
-    Answer::Matched(Match {
+    answers::write_path(sheet, &path[..f.count], ids, lengths);
+    Match {
         count: f.count,
         length_m: x.total_length,
         start_offset: f.start_offset,
         start_fraction: f.start_fraction,
         end_offset: f.end_offset,
         end_fraction: f.end_fraction,
-        primary,
-        coverage: metres,
-    })
-}
-
-// The answer of a path: without coverage it is refusal 10 from the first point to the last.
-fn finish_legs(
-    s: &[u8],
-    c: Counts,
-    set: Settings,
-    x: FullPath,
-    covered: &mut [usize],
-    coverage: &[f64],
-    ids: &mut [u64],
-    lengths: &mut [f64],
-) -> Answer
-    requires well_formed { WellFormed s.now c × (set ≡ (sheet_of s.now c).settings) × ((slots : ℕ) × ReferenceOutcome (sheet_of s.now c) c (outcome (view (sheet_of s.now c)) (bounded_astar slots)) ids.old covered.old coverage.now (Outcome.Legs x)) }
-    requires answer_room { AnswerRoom c covered.old coverage.now ids.old lengths.old }
-    ensures { (slots : ℕ) → ReferenceOutcome (sheet_of s.now c) c (outcome (view (sheet_of s.now c)) (bounded_astar slots)) ids.old covered.old coverage.now (Outcome.Legs x)
-        → decoded result ids.new lengths.new ≡ answered (sheet_of s.now c) (lists ids.old lengths.old) (outcome (view (sheet_of s.now c)) (bounded_astar slots)) }
-{
-    match coverage::primary_edge(covered, coverage, x.covered) {
-        Primary::Nothing => refuse(s, c, 10, 0, c.p - 1, covered, ids, lengths),
-        Primary::Edge(road, metres) => {
-            finish_path(s, c, set, x, road, metres, covered, ids, lengths)
-        }
+        primary: sheet.id(primary.edge_idx),
+        coverage: primary.coverage_m,
     }
 }
 
-// The answer of a reference that ended so, and both answer lists: refusals 7 to 11 zero them.
+// The answer of a reference whose legs ended so, and both answer lists: a refusal zeroes them. A path without coverage is refused from the first point to the last.
+#[tactic(auto, using(crate::proofs::Closing::walks_fit))]
 pub fn answer(
-    s: &[u8],
-    c: Counts,
-    set: Settings,
-    out: Outcome,
-    covered: &mut [usize],
-    coverage: &[f64],
+    sheet: &Sheet<'_>,
+    found: Result<FullPath, DecodeError>,
+    coverages: &mut Coverages<'_>,
     ids: &mut [u64],
     lengths: &mut [f64],
 ) -> Answer
-    requires well_formed { WellFormed s.now c × (set ≡ (sheet_of s.now c).settings) × ((slots : ℕ) × ReferenceOutcome (sheet_of s.now c) c (outcome (view (sheet_of s.now c)) (bounded_astar slots)) ids.old covered.old coverage.now out) }
-    requires answer_room { AnswerRoom c covered.old coverage.now ids.old lengths.old }
-    ensures { (slots : ℕ) → ReferenceOutcome (sheet_of s.now c) c (outcome (view (sheet_of s.now c)) (bounded_astar slots)) ids.old covered.old coverage.now out
-        → decoded result ids.new lengths.new ≡ answered (sheet_of s.now c) (lists ids.old lengths.old) (outcome (view (sheet_of s.now c)) (bounded_astar slots)) }
+    requires found { (slots : ℕ) × LegsWritten (contents sheet.now) sheet.now.counts (outcome (view (contents sheet.now)) (bounded_astar slots)) ids.old coverages.old found }
+    requires room { let most = most_entries sheet.now.counts.p sheet.now.counts.n in (most ≤ length coverages.old.roads.now) × (most ≤ length ids.old) × (most ≤ length lengths.old) }
+    ensures { (slots : ℕ) → LegsWritten (contents sheet.now) sheet.now.counts (outcome (view (contents sheet.now)) (bounded_astar slots)) ids.old coverages.old found
+        → decoded result ids.new lengths.new ≡ answered (contents sheet.now) (lists ids.old lengths.old) (outcome (view (contents sheet.now)) (bounded_astar slots)) }
 {
-    match out {
-        Outcome::Refused(n, a, b) => refuse(s, c, n, a, b, covered, ids, lengths),
-        Outcome::Legs(x) => finish_legs(s, c, set, x, covered, coverage, ids, lengths),
-    }
+    let path = match found {
+        Ok(path) => path,
+        Err(e) => return refuse(e, ids, lengths),
+    };
+    let Some(primary) = coverages.primary_edge() else {
+        let from = 0;
+        let to = sheet.counts.p - 1;
+        return refuse(DecodeError::NoPath { from, to }, ids, lengths);
+    };
+    Ok(finish_path(sheet, path, primary, coverages.roads, ids, lengths))
 }

@@ -1,69 +1,63 @@
--- The greatest coverage, place by place.
-use Prim.Native.Nat.{ℕ, ◌+◌, ◌-◌, ◌≤◌, ◌<◌}
-use mathlib.Core.Path.{◌≡◌, refl, sym, ap, ◌∙◌}
-use mathlib.Core.Bool.{Bool, true, false, cond}
-use mathlib.Core.Option.{none, some}
-use mathlib.Core.List.{List}
-use native.Mathlib.Omega.{arith}
-use lib.ListN.{get_or}
-use lib.Ieee.{Float, nan}
+-- The greatest coverage, one entry after the other.
+use Rattle.std.proofs.Common.{◌≡◌, ◌⊎◌, inl, inr, ℕ, suc, ◌<◌, Bool, true, false, cond, List, [], ◌∷◌, map, length, get_or, take, Option, Some, None, refl, ap, ◌∙◌, sym, arith, length-take-le, get_or-take}
+use Rattle.std.specs.List.{reduce, fold}
+use Rattle.std.specs.Float.Ieee.{Float}
+use Rattle.std.proofs.Math.Option as definition
 use Rattle.model.specs.Numbers.{◌<ᶠ◌}
-use Rattle.model.specs.Lists.{fold, tabulate}
+use Rattle.model.specs.Lists as lists
 use Rattle.model.specs.Sheet.{Sheet}
-use Rattle.model.specs.Legs.{EdgeCoverage}
-use Rattle.model.specs.Decode.{greater, primary_edge}
-use Rattle.search.proofs.Tables.{tab_next, tab_none}
-use Rattle.full_path.specs.Left.{coverage_of, coverages_at}
+use Rattle.model.specs.Legs as legs
+use Rattle.model.specs.Decode.{primary_edge}
+use Rattle.model.specs.Decode as decode
+use Rattle.search.specs.Answers.{RoadNumbers}
+use Rattle.full_path.specs.declared.EdgeCoverage.{EdgeCoverage}
+use Rattle.full_path.specs.Left.{coverage_of, paired, greater, primary_of, Within}
 
--- the place of the greater one
-pub later_greater : {b : Bool} (j best : ℕ) → b ≡ true → j ≡ cond b j best
-later_greater j best e = rw e
+-- the greatest of those so far and the rest
+abbrev pub greatest_on : Option EdgeCoverage → List EdgeCoverage → Option EdgeCoverage
+greatest_on None xs = reduce greater xs
+greatest_on (Some b) xs = Some (fold greater b xs)
 
-pub first_stays : {b : Bool} (j best : ℕ) → b ≡ false → best ≡ cond b j best
-first_stays j best e = rw e
+none_paired : (rs : List ℕ) (ms : List Float) → (length rs ≡ 0) ⊎ (length ms ≡ 0) → paired rs ms ≡ []
+none_paired [] ms h = refl
+none_paired (r ∷ rs) [] h = refl
+none_paired (r ∷ rs) (m ∷ ms) (inl h) = absurd (omega arith)
+none_paired (r ∷ rs) (m ∷ ms) (inr h) = absurd (omega arith)
 
-pub no_primary : (t : Sheet) (n : ℕ) (covered : List ℕ) (coverage : List Float) → n ≡ 0 → none ≡ primary_edge (coverages_at t n covered coverage)
-unfolding coverages_at tabulate primary_edge
-no_primary t n covered coverage e = rw e
+-- nothing is left
+pub greatest_end : (b : Option EdgeCoverage) (rs : List ℕ) (ms : List Float) → (length rs ≡ 0) ⊎ (length ms ≡ 0) → greatest_on b (paired rs ms) ≡ b
+greatest_end None rs ms h = rw (none_paired rs ms h)
+greatest_end (Some x) rs ms h = rw (none_paired rs ms h)
 
-module _ (covered : List ℕ) (coverage : List Float) (n : ℕ) where
-  abbrev entry : Sheet → ℕ → EdgeCoverage
-  entry t j = coverage_of t record { edge_idx = get_or covered j 0; coverage_m = get_or coverage j nan }
+-- as the definition has it
+module _ (t : Sheet) where
+  greater_as : (b : Bool) (x y : EdgeCoverage) → coverage_of t (cond b y x) ≡ cond b (coverage_of t y) (coverage_of t x)
+  greater_as true x y = refl
+  greater_as false x y = refl
 
-  -- the greatest before j is at `best`
-  pub record SoFar (best j : ℕ) : Type 0 where
-    pub before : best < j
-    pub within : j ≤ n
-    pub rest : (t : Sheet) → some (fold greater (entry t best) (tabulate (n - j) j (entry t))) ≡ primary_edge (coverages_at t n covered coverage)
+  fold_as : (b : EdgeCoverage) (xs : List EdgeCoverage) → coverage_of t (fold greater b xs) ≡ lists.fold decode.greater (coverage_of t b) (map (coverage_of t) xs)
+  unfolding lists.fold decode.greater
+  fold_as b [] = refl
+  fold_as b (x ∷ xs) = fold_as (greater b x) xs ∙ ap (λ y. lists.fold decode.greater y (map (coverage_of t) xs)) (greater_as (b.coverage_m <ᶠ x.coverage_m) b x)
 
-  pub first_best : (n ≡ 0 → ⊥) → SoFar 0 1
-  unfolding coverages_at primary_edge
-  first_best h = record {
-    before = omega arith;
-    within = omega arith;
-    rest = λ t. ap primary_edge (sym (tab_next n 0 (entry t) (omega arith))) ∙ ap (λ (m : ℕ). primary_edge (tabulate m 0 (entry t))) {x = n - 0} {y = n} (omega arith);
-  }
+  pub greatest_as : (o : Option EdgeCoverage) (xs : List EdgeCoverage) → o ≡ reduce greater xs → primary_of t o ≡ primary_edge (map (coverage_of t) xs)
+  unfolding primary_edge
+  greatest_as o [] e = rw e
+  greatest_as o (x ∷ xs) e = rw e (ap (λ y. definition.some y) (fold_as x xs))
 
-  module _ {best j : ℕ} (far : SoFar best j) where
-    chosen : (t : Sheet) (b : Bool) → cond b (entry t j) (entry t best) ≡ entry t (cond b j best)
-    chosen t true = refl
-    chosen t false = refl
+-- it is one of the roads
+module _ (e : ℕ) where
+  either : (b : Bool) (x y : EdgeCoverage) → x.edge_idx < e → y.edge_idx < e → (cond b y x).edge_idx < e
+  either true x y h k = k
+  either false x y h k = h
 
-    at_place : (b : Bool) → j < n → cond b j best < j + 1
-    at_place true h = omega arith
-    at_place false h = let l = far.before in omega arith
+  fold_within : (b : EdgeCoverage) (rs : List ℕ) (ms : List Float) → b.edge_idx < e → RoadNumbers e (length rs) rs → (fold greater b (paired rs ms)).edge_idx < e
+  fold_within b [] ms known below = known
+  fold_within b (r ∷ rs) [] known below = known
+  fold_within b (r ∷ rs) (m ∷ ms) known below =
+      fold_within (greater b record { edge_idx = r; coverage_m = m }) rs ms (either (b.coverage_m <ᶠ m) b record { edge_idx = r; coverage_m = m } known (below 0 (omega arith))) (λ j h. below (suc j) (omega arith))
 
-    pub next_best : j < n → (next : ℕ) → next ≡ cond (get_or coverage best nan <ᶠ get_or coverage j nan) j best → SoFar next (j + 1)
-    unfolding fold greater
-    next_best h next e = record {
-      before = rw e (at_place (get_or coverage best nan <ᶠ get_or coverage j nan) h);
-      within = omega arith;
-      rest = λ t.
-          ap (λ (x : EdgeCoverage). some (fold greater x (tabulate (n - (j + 1)) (j + 1) (entry t)))) (ap (entry t) e ∙ sym (chosen t (get_or coverage best nan <ᶠ get_or coverage j nan)))
-          ∙ ap (λ (xs : List EdgeCoverage). some (fold greater (entry t best) xs)) (sym (tab_next n j (entry t) h))
-          ∙ far.rest t;
-    }
-
-    pub last_best : n ≤ j → (t : Sheet) → some (entry t best) ≡ primary_edge (coverages_at t n covered coverage)
-    unfolding fold
-    last_best h t = ap (λ (xs : List EdgeCoverage). some (fold greater (entry t best) xs)) (sym (tab_none n j (entry t) h)) ∙ far.rest t
+  pub greatest_within : (o : Option EdgeCoverage) (rs : List ℕ) (ms : List Float) → o ≡ reduce greater (paired rs ms) → RoadNumbers e (length rs) rs → Within e o
+  greatest_within o [] ms is below = rw is tt
+  greatest_within o (r ∷ rs) [] is below = rw is tt
+  greatest_within o (r ∷ rs) (m ∷ ms) is below = rw is (fold_within record { edge_idx = r; coverage_m = m } rs ms (below 0 (omega arith)) (λ j h. below (suc j) (omega arith)))

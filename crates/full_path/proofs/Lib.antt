@@ -1,5 +1,6 @@
-pub mod Lookup
-pub mod Writing
-pub mod Appended
-pub mod Covering
+pub mod Added
+pub mod Behind
+pub mod Covered
 pub mod Greatest
+pub mod Numbers
+pub mod Writing

@@ -1,140 +1,100 @@
 // The metres covered of each road, in the order of the roads' first traversal.
-ghost use Rattle.std.specs.Prelude.{◌≡◌, cond, ℕ, ◌+◌, ◌≤◌, ◌<◌, length, get_or};
-ghost use Rattle.std.specs.Float.{nan};
-ghost use Rattle.model.specs.Numbers.{◌<ᶠ◌};
-ghost use Rattle.model.specs.Judge.{WellFormed};
-ghost use Rattle.model.specs.Sheet.{Sheet, sheet_of};
-ghost use Rattle.model.specs.Legs as legs;
+ghost use Rattle.std.specs.Prelude.{◌≡◌, ◌==◌, ℕ, ◌+◌, ◌≤◌, ◌<◌, length, take, position};
+ghost use Rattle.model.specs.Sheet as definition;
 ghost use Rattle.model.specs.Decode.{primary_edge};
-ghost use Rattle.search.specs.Answers.{RoadNumbers};
-ghost use Rattle.full_path.specs.Left.{covers, Known, coverage_of, Numbered, PlaceAmong, coverages_at, cover_with, cover_all, primary_of, Within};
+ghost use Rattle.sheet.specs.Contents.{contents};
+ghost use Rattle.rules.specs.Code.{terminal_of};
 
-use crate::{EdgeCoverage, Primary, path};
-use model::Counts;
-use rules::PathResult;
-use sheet::roads;
+use crate::{Coverages, Covering, EdgeCoverage};
+use rules::{PathResult, TerminalEdge};
+use sheet::Sheet;
 
-// Road j of a route, with the metres that are covered of it.
-fn cover_at(s: &[u8], c: Counts, r: PathResult, area: &[u64], j: usize) -> EdgeCoverage
-    requires { WellFormed s.now c × Known (sheet_of s.now c) c r area.now × (j < length (covers (sheet_of s.now c) r area.now)) }
-    ensures { (result.edge_idx < c.e) × ((d : legs.EdgeCoverage) → coverage_of (sheet_of s.now c) result ≡ get_or (covers (sheet_of s.now c) r area.now) j d) }
-{
-    let first = path::terminals(r.head);
-    if j < first {
-        return EdgeCoverage {
-            edge_idx: r.head.road.number,
-            coverage_m: r.head.coverage_m,
+impl Coverages<'_> {
+    ghost use Rattle.full_path.specs.Left.{covers, Known, Own, coverage_of, Numbered, coverages_at, cover_with, cover_all, primary_of, Within, OnRoads, SameAreas, RoomFor};
+
+    // The place of a road.
+    fn find(&self, road: usize) -> Option<usize>
+        ensures { result ≡ position (λ r. r == road) (take self.now.count self.now.roads.now) }
+    {
+        self.roads[..self.count].iter().position(|r| *r == road)
+    }
+
+    // A coverage behind those that are there, or in the sum of its road.
+    fn add(&mut self, covering: Covering, k: EdgeCoverage)
+        requires { RoomFor 1 self.old }
+        ensures room { SameAreas self.old self.new × (self.new.count ≤ self.old.count + 1) }
+        ensures added { (t : definition.Sheet) (e : ℕ) → Numbered t e → OnRoads e self.old → k.edge_idx < e
+            → OnRoads e self.new × (coverages_at t self.new ≡ cover_with covering (coverages_at t self.old) (coverage_of t k)) }
+    {
+        let place = match covering {
+            Covering::PerRoad => self.find(k.edge_idx),
+            Covering::PerPass => None,
         };
-    }
-    let i = j - first;
-    if i < r.middle.count {
-        let road = area[i] as usize;
-        let metres = roads::length_m(s, c, road);
-        return EdgeCoverage {
-            edge_idx: road,
-            coverage_m: metres,
-        };
-    }
-    EdgeCoverage {
-        edge_idx: r.tail.road.number,
-        coverage_m: r.tail.coverage_m,
-    }
-}
-
-// The place of a road among the first n, or n.
-fn find(covered: &[usize], n: usize, road: usize) -> usize
-    requires { n ≤ length covered.now }
-    ensures { PlaceAmong covered.now n road result }
-{
-    let mut i = 0;
-    while i < n {
-        if covered[i] == road {
-            return i;
-        }
-        i += 1;
-    }
-    i
-}
-
-// One coverage behind the n that are there, or in the sum of its road: how many there are.
-fn cover_one(
-    summed: bool,
-    covered: &mut [usize],
-    coverage: &mut [f64],
-    n: usize,
-    k: EdgeCoverage,
-) -> usize
-    requires { (n < length covered.old) × (n < length coverage.old) }
-    ensures { (result ≤ n + 1) × ((t : Sheet) (e : ℕ) → Numbered t e → RoadNumbers e n covered.old → k.edge_idx < e
-        → RoadNumbers e result covered.new
-        × (coverages_at t result covered.new coverage.new ≡ cover_with summed (coverages_at t n covered.old coverage.old) (coverage_of t k))) }
-{
-    if summed {
-        let at = find(covered, n, k.edge_idx);
-        if at < n {
-            coverage[at] = coverage[at] + k.coverage_m;
-            return n;
+        match place {
+            Some(at) => self.metres[at] += k.coverage_m,
+            None => {
+                self.roads[self.count] = k.edge_idx;
+                self.metres[self.count] = k.coverage_m;
+                self.count += 1;
+            }
         }
     }
-    covered[n] = k.edge_idx;
-    coverage[n] = k.coverage_m;
-    n + 1
-}
 
-// The coverages of a route behind the n0 that are there, summed per road or one entry each: how many there are.
-pub fn cover_leg(
-    s: &[u8],
-    c: Counts,
-    summed: bool,
-    r: PathResult,
-    area: &[u64],
-    covered: &mut [usize],
-    coverage: &mut [f64],
-    n0: usize,
-) -> usize
-    requires { WellFormed s.now c × Known (sheet_of s.now c) c r area.now × RoadNumbers c.e n0 covered.old × (n0 + c.n + 1 ≤ length covered.old) × (n0 + c.n + 1 ≤ length coverage.old) }
-    ensures { (result ≤ n0 + c.n + 1) × RoadNumbers c.e result covered.new
-        × (coverages_at (sheet_of s.now c) result covered.new coverage.new
-        ≡ cover_all summed (coverages_at (sheet_of s.now c) n0 covered.old coverage.old) (covers (sheet_of s.now c) r area.now)) }
-{
-    let m = path::count_roads(r);
-    let mut n = n0;
-    let mut j = 0;
-    while j < m {
-        let k = cover_at(s, c, r, area, j);
-        n = cover_one(summed, covered, coverage, n, k);
-        j += 1;
+    // The coverage of a terminal road that is kept.
+    fn add_terminal(&mut self, covering: Covering, p: Option<TerminalEdge>)
+        requires { RoomFor 1 self.old }
+        ensures room { SameAreas self.old self.new × (self.new.count ≤ self.old.count + 1) }
+        ensures added { (t : definition.Sheet) (e : ℕ) → Numbered t e → OnRoads e self.old → Own t e p
+            → OnRoads e self.new × (coverages_at t self.new ≡ cover_all covering (coverages_at t self.old) (terminal_of p)) }
+    {
+        if let Some(edge) = p {
+            let k = EdgeCoverage {
+                edge_idx: edge.road.number,
+                coverage_m: edge.coverage_m,
+            };
+            self.add(covering, k);
+        }
     }
-    n
-}
 
-// The place of the greater of two coverages, the first if equal.
-fn greater(coverage: &[f64], best: usize, j: usize) -> usize
-    requires { (best < length coverage.now) × (j < length coverage.now) }
-    ensures { result ≡ cond (get_or coverage.now best nan <ᶠ get_or coverage.now j nan) j best }
-{
-    if coverage[best] < coverage[j] {
-        j
-    } else {
+    // The coverages of a route, whose middle has these roads.
+    pub fn cover_leg(
+        &mut self,
+        sheet: &Sheet<'_>,
+        covering: Covering,
+        r: &PathResult,
+        middle: &[u64],
+    )
+        requires { Known (contents sheet.now) sheet.now.counts r.now middle.now × OnRoads sheet.now.counts.e self.old × RoomFor (length middle.now + 2) self.old }
+        ensures room { SameAreas self.old self.new × (self.new.count ≤ self.old.count + length middle.now + 2) }
+        ensures covered { OnRoads sheet.now.counts.e self.new × (coverages_at (contents sheet.now) self.new ≡ cover_all covering (coverages_at (contents sheet.now) self.old) (covers (contents sheet.now) r.now middle.now)) }
+    {
+        self.add_terminal(covering, r.head);
+        for number in middle {
+            let road = *number as usize;
+            let whole = EdgeCoverage {
+                edge_idx: road,
+                coverage_m: sheet.length_m(road),
+            };
+            self.add(covering, whole);
+        }
+        self.add_terminal(covering, r.tail);
+    }
+
+    // primary_edge: the greatest coverage, the first if equal.
+    pub fn primary_edge(&self) -> Option<EdgeCoverage>
+        ensures { ((t : definition.Sheet) → primary_of t result ≡ primary_edge (coverages_at t self.now)) × ((e : ℕ) → OnRoads e self.now → Within e result) }
+    {
+        let n = self.count;
+        let mut best: Option<EdgeCoverage> = None;
+        for (road, metres) in self.roads[..n].iter().zip(&self.metres[..n]) {
+            let k = EdgeCoverage {
+                edge_idx: *road,
+                coverage_m: *metres,
+            };
+            if best.is_none_or(|b| b.coverage_m < k.coverage_m) {
+                best = Some(k);
+            }
+        }
         best
     }
-}
-
-// The greatest of the first n coverages, the first if equal.
-pub fn primary_edge(covered: &[usize], coverage: &[f64], n: usize) -> Primary
-    requires { (n ≤ length covered.now) × (n ≤ length coverage.now) }
-    ensures { ((t : Sheet) → primary_of t result ≡ primary_edge (coverages_at t n covered.now coverage.now)) × ((e : ℕ) → RoadNumbers e n covered.now → Within e result) }
-{
-    if n == 0 {
-        return Primary::Nothing;
-    }
-    let mut best = 0;
-    let mut j = 1;
-    while j < n {
-        best = greater(coverage, best, j);
-        j += 1;
-    }
-    let road = covered[best];
-    let metres = coverage[best];
-    Primary::Edge(road, metres)
 }

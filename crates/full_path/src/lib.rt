@@ -4,12 +4,7 @@
 pub mod coverage;
 pub mod path;
 
-// The number of the last road written, if there is one.
-#[derive(Clone, Copy)]
-pub enum Last {
-    Road(u64),
-    Nothing,
-}
+ghost use Rattle.std.specs.Prelude.{◌≤◌, length};
 
 // A road by its number, with the metres that are covered of it.
 #[derive(Clone, Copy)]
@@ -18,9 +13,18 @@ pub struct EdgeCoverage {
     pub coverage_m: f64,
 }
 
-// primary_edge: a road by its number with its coverage, if there is one.
+// How a coverage joins those before it: summed with those of its road, as for a line, or as an entry of its own, as for a point along line.
 #[derive(Clone, Copy)]
-pub enum Primary {
-    Edge(usize, f64),
-    Nothing,
+pub enum Covering {
+    PerRoad,
+    PerPass,
+}
+
+// The coverages so far, in the order of the roads' first traversal, in two areas that are lent: the road of each by its number, and its metres.
+#[derive(Drop)]
+pub struct Coverages<'a> {
+    pub roads: &'a mut [usize],
+    pub metres: &'a mut [f64],
+    pub count: usize,
+    ghost within: { (count ≤ length roads.now) × (count ≤ length metres.now) },
 }

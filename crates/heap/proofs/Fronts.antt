@@ -3,7 +3,6 @@ use mathlib.Core.Path.{◌≡◌, refl, sym, ap, ◌∙◌}
 use mathlib.Core.List.{List, [], ◌∷◌, ◌++◌}
 use mathlib.Core.Bool.{Bool, true, false, cond}
 use Prim.Native.Nat.{ℕ, zero, suc, ◌+◌, ◌-◌, ◌*◌, ◌/◌, ◌<◌, ◌≤◌}
-use native.Mathlib.Nat.{not-suc-le-zero, le_of_suc-le-suc}
 use native.Mathlib.Numerals.{add-one}
 use native.Mathlib.Omega.{arith}
 use lib.Dec.{T, eqb, ltb, eqb→eq, ltb→lt}
@@ -12,15 +11,9 @@ use lib.Seq.{length-take-le, take-suc, take-take, get_or-take, get_or-set_other,
 use lib.Ieee.{Float}
 use Rattle.model.specs.Numbers.{◌≤ᶠ◌}
 use Rattle.model.specs.Heap.{sift_up, child, sink, push, pop}
-use Rattle.model.proofs.Members.{in_getD, Every}
+use Rattle.model.proofs.Members.{in_getD}
 use Rattle.bounds.proofs.HeapLaws.{child_range}
-use Rattle.heap.specs.Keys.{Below}
-
--- within a list no default counts
-pub within_list : {A : Type 0} (xs : List A) (i : ℕ) (d d' : A) → i < length xs → get_or xs i d ≡ get_or xs i d'
-within_list [] i d d' h = absurd (not-suc-le-zero h)
-within_list (x ∷ xs) zero d d' h = refl
-within_list (x ∷ xs) (suc i) d d' h = within_list xs i d d' (le_of_suc-le-suc h)
+use Rattle.heap.specs.Keys.{Below, FrontBelow}
 
 take_set : {A : Type 0} (n : ℕ) (xs : List A) (i : ℕ) (x : A) → take n (set xs i x) ≡ set (take n xs) i x
 take_set zero xs i x = refl
@@ -94,8 +87,12 @@ unfolding pop
 front_pop key o o' len p h q =
     rw (q, length-take-le len o h, get_or-take len o (len - 1) 0 (omega arith), take-take (len - 1) len o (omega arith)) (front_sink key (get_or o (len - 1) 0) (len - 1) (len - 1) o 0 (omega arith))
 
--- what holds of the heap's entries holds of the first numbers of the area
-pub front_below : (o : List ℕ) (len m : ℕ) → len ≤ length o → Every (λ k. k < m) (take len o) → Below o len m
-front_below o len m h a j b =
+-- no entry is below m but those in the front
+pub below_front : (o : List ℕ) (len m : ℕ) → len ≤ length o → Below (take len o) m → FrontBelow o len m
+below_front o len m h a j b =
     let size = length-take-le len o h in
     rw (get_or-take len o j 0 b) at (a (get_or (take len o) j 0) (in_getD (take len o) j 0 (omega arith)))
+
+pub pop_none : (key : ℕ → Float) → pop key [] ≡ []
+unfolding pop sink sift_up
+pop_none key = refl

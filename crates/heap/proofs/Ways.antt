@@ -10,7 +10,7 @@ use lib.Ieee.{Float}
 use borrow.Author.Tests.{eq-eqb, ne_eqb, lt-ltb, le-ltb}
 use Rattle.model.specs.Numbers.{◌≤ᶠ◌}
 use Rattle.model.specs.Heap.{sift_up, child, sink}
-use Rattle.heap.specs.Keys.{Below}
+use Rattle.heap.specs.Keys.{FrontBelow}
 
 -- a store of a number below m keeps a number below m
 set_below : (o : List ℕ) (i j v m : ℕ) → v < m → get_or o j 0 < m → get_or (set o i v) j 0 < m
@@ -28,10 +28,10 @@ pub record Up (key : ℕ → Float) (e m : ℕ) (o₀ : List ℕ) (hole : ℕ) (
   pub within : i ≤ hole
   pub same : sift_up fuel key e o i ≡ sift_up hole key e o₀ hole
   pub len : length o ≡ length o₀
-  pub below : Below o i m
+  pub below : FrontBelow o i m
 
 module _ (key : ℕ → Float) (e m : ℕ) (o₀ : List ℕ) (hole : ℕ) where
-  pub up_start : Below o₀ hole m → Up key e m o₀ hole o₀ hole
+  pub up_start : FrontBelow o₀ hole m → Up key e m o₀ hole o₀ hole
   up_start b = record { fuel = hole; enough = omega arith; within = omega arith; same = refl; len = refl; below = b }
 
   -- the parent moves down into the hole
@@ -79,10 +79,10 @@ pub record Down (key : ℕ → Float) (e end m : ℕ) (o₀ o : List ℕ) (i lef
   pub child_at : left ≡ 2 * i + 1
   pub same : sink fuel key e end o i ≡ sink end key e end o₀ 0
   pub len : length o ≡ length o₀
-  pub below : Below o end m
+  pub below : FrontBelow o end m
 
 module _ (key : ℕ → Float) (e end m : ℕ) (o₀ : List ℕ) where
-  pub down_start : Below o₀ end m → Down key e end m o₀ o₀ 0 1
+  pub down_start : FrontBelow o₀ end m → Down key e end m o₀ o₀ 0 1
   down_start b = record { fuel = end; enough = omega arith; within = omega arith; child_at = omega arith; same = refl; len = refl; below = b }
 
   -- the greater child moves up into the hole
@@ -112,9 +112,6 @@ module _ (key : ℕ → Float) (e end m : ℕ) (o₀ : List ℕ) where
       go : (f : ℕ) → end ≤ f + i → sink f key e end o i ≡ sink end key e end o₀ 0 → sift_up left key e (set o i (get_or o left 0)) left ≡ sink end key e end o₀ 0
       go zero l s = absurd (omega (arith, d.child_at))
       go (suc f) l s = rw d.child_at (simp (le-ltb (2 * i + 1 + 1) end (omega (arith, d.child_at)), eq-eqb (2 * i + 1 + 1) end (omega (arith, d.child_at))) at s)
-
-  pub down_one_below : (o : List ℕ) (i left : ℕ) → Down key e end m o₀ o i left → left + 1 ≡ end → Below (set o i (get_or o left 0)) left m
-  down_one_below o i left d h j l = set_below o i j (get_or o left 0) m (d.below left (omega arith)) (d.below j (omega arith))
 
   -- no child
   pub down_none : (o : List ℕ) (i left : ℕ) → Down key e end m o₀ o i left → end ≤ left + 1 → (left + 1 ≡ end → ⊥)

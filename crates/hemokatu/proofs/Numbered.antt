@@ -1,20 +1,10 @@
 -- Every refusal of a call has a number from 1 to 11: the definition is followed from the judge to the legs.
-use Prim.Native.Nat.{ℕ, ◌+◌, ◌-◌}
-use mathlib.Core.Path.{subst}
-use mathlib.Core.Bool.{Bool, true, false, cond}
-use mathlib.Core.Option.{Option, none, some}
-use mathlib.Core.List.{List, [], ◌∷◌, map}
-use native.Mathlib.Omega.{arith}
-use lib.Dec.{leb, ltb, eqb}
-use lib.ListN.{length}
-use Rattle.model.specs.declared.Judged.{Judged}
-use Rattle.model.specs.declared.Judged.TheVariants.{Fine, Refused}
-use Rattle.model.specs.declared.Verdict.{Verdict}
-use Rattle.model.specs.declared.Verdict.TheVariants.{Good, Bad}
+use Rattle.std.proofs.Common.{ℕ, ◌≡◌, ◌+◌, ◌-◌, List, [], ◌∷◌, map, length, refl, subst, arith, eqb, ltb}
+use Rattle.std.proofs.Math.Option.{Option, none, some}
+use Rattle.model.specs.Judge.{Judged, Fine, Refused, judged}
 use Rattle.model.specs.Numbers.{◌≤ᶠ◌}
 use Rattle.model.specs.Lists.{maybe}
-use Rattle.model.specs.Layout.{counts_of, header_size, point_along_line}
-use Rattle.model.specs.Judge.{counts_good, offsets_good, fields_good, lists_good, rows_good, refuse, refuse_field, judged}
+use Rattle.model.specs.Layout.{point_along_line}
 use Rattle.model.specs.Sheet.{Sheet, parsed}
 use Rattle.model.specs.View.{Leg, View, view}
 use Rattle.model.specs.Search.{Search, bounded_astar}
@@ -22,35 +12,10 @@ use Rattle.model.specs.Candidates.{Candidate, find_candidates, closest_point}
 use Rattle.model.specs.Legs.{EdgeCoverage, PathResult, LegEnd, best, no_path, heap_full}
 use Rattle.model.specs.Decode.{FullPath, Outcome, no_path_yet, extended, path_of_leg, primary_edge, with_primary, after_leg, decode_line, decode_point_along_line, decode_legs, first_empty, require_close_candidate, decode_points, outcome}
 use Rattle.model.specs.Decode as outcomes
-use Rattle.model.specs.Call.{Lists, Lent, Answer, refused, matched, answered, has_room, untouched, decode_by, decode_sheet, after_judging, decode}
+use Rattle.model.specs.Call.{Lists, Lent, Answer, Decoded, refused, matched, answered, has_room, untouched, decode_by, decode_sheet, after_judging, decode}
+use Rattle.model.proofs.Members.{either}
+use Rattle.decoder.proofs.Judged.{early}
 use Rattle.hemokatu.specs.Exported.{InTable, NumberedTheorem}
-
--- ---- the judge
-
-abbrev JudgedWell : Judged → Type 0
-JudgedWell Fine = Unit {0}
-JudgedWell (Refused n at) = InTable n
-
-refuse_well : (n : ℕ) (b : Bool) (j : Judged) → InTable n → JudgedWell j → JudgedWell (refuse n b j)
-unfolding refuse
-refuse_well n true j h k = k
-refuse_well n false j h k = h
-
-field_well : (v : Verdict) (j : Judged) → JudgedWell j → JudgedWell (refuse_field v j)
-unfolding refuse_field
-field_well Good j k = k
-field_well (Bad at) j k = (omega arith, omega arith)
-
-judged_well : (s : List ℕ) → JudgedWell (judged s)
-unfolding judged
-judged_well s =
-    let c = counts_of s in
-    refuse_well 1 (leb header_size (length s)) _ (omega arith, omega arith)
-    (refuse_well 2 (counts_good c) _ (omega arith, omega arith)
-    (refuse_well 3 (offsets_good s c) _ (omega arith, omega arith)
-    (field_well (fields_good s c) _
-    (refuse_well 5 (lists_good s c) _ (omega arith, omega arith)
-    (refuse_well 5 (rows_good s c) Fine (omega arith, omega arith) tt)))))
 
 -- ---- the legs
 
@@ -84,19 +49,15 @@ point_well v find xs [] rest = primary_well 2 no_path_yet
 point_well v find xs (leg ∷ legs) [] = primary_well 2 no_path_yet
 point_well v find xs (leg ∷ legs) (ys ∷ rest) = leg_well 0 _ _ (λ r. primary_well 2 (path_of_leg leg r))
 
-either_well : (b : Bool) (x y : Outcome) → Well x → Well y → Well (cond b x y)
-either_well true x y h k = h
-either_well false x y h k = k
-
 legs_well : (v : View) (find : Search) (cs : List (List Candidate)) → Well (decode_legs v find cs)
 unfolding decode_legs
 legs_well v find [] = (omega arith, omega arith)
-legs_well v find (xs ∷ rest) = either_well (eqb v.kind point_along_line) _ _ (point_well v find xs v.legs rest) (line_well v find 0 no_path_yet xs v.legs rest)
+legs_well v find (xs ∷ rest) = either Well (eqb v.kind point_along_line) (point_well v find xs v.legs rest) (line_well v find 0 no_path_yet xs v.legs rest)
 
 close_well : (v : View) (find : Search) (cs : List (List Candidate)) → Well (require_close_candidate v find cs)
 unfolding require_close_candidate
 close_well v find cs =
-    either_well ((closest_point cs).distance ≤ᶠ v.settings.max_candidate_distance_m) _ (outcomes.refused 9 (closest_point cs).point 0) (legs_well v find cs) (omega arith, omega arith)
+    either Well ((closest_point cs).distance ≤ᶠ v.settings.max_candidate_distance_m) (legs_well v find cs) (omega arith, omega arith)
 
 points_well : (v : View) (find : Search) (cs : List (List Candidate)) → Well (decode_points v find cs)
 unfolding decode_points maybe
@@ -109,7 +70,7 @@ points_well v find (xs ∷ rest) = go (first_empty 0 (xs ∷ rest))
 
 outcome_well : (v : View) (find : Search) → Well (outcome v find)
 unfolding outcome
-outcome_well v find = either_well (ltb point_along_line v.kind) _ _ (omega arith, omega arith) (points_well v find (map (find_candidates v.settings) v.points))
+outcome_well v find = either Well (ltb point_along_line v.kind) (omega arith, omega arith) (points_well v find (map (find_candidates v.settings) v.points))
 
 -- ---- the call
 
@@ -124,19 +85,15 @@ answered_well t l (outcomes.matched k c) h = tt
 
 sheet_well : (t : Sheet) (lent : Lent) → AnswerWell (decode_sheet t lent).answer
 unfolding decode_sheet decode_by untouched
-sheet_well t lent = go (has_room (length t.points) t.nodes lent)
-  where
-    go : (b : Bool) → AnswerWell (cond b (answered t lent.lists (outcome (view t) (bounded_astar lent.heap))) (untouched 6 0 lent.lists)).answer
-    go true = answered_well t lent.lists _ (outcome_well (view t) (bounded_astar lent.heap))
-    go false = (omega arith, omega arith)
+sheet_well t lent = either (λ (d : Decoded). AnswerWell d.answer) (has_room (length t.points) t.nodes lent) (answered_well t lent.lists _ (outcome_well (view t) (bounded_astar lent.heap))) (omega arith, omega arith)
 
 call_well : (s : List ℕ) (lent : Lent) → AnswerWell (decode s lent).answer
 unfolding decode after_judging untouched
-call_well s lent = go (judged s) (judged_well s)
+call_well s lent = go (judged s) refl
   where
-    go : (j : Judged) → JudgedWell j → AnswerWell (after_judging j s lent.lists (λ t. decode_sheet t lent)).answer
-    go (Refused n at) h = h
-    go Fine h = sheet_well (parsed s) lent
+    go : (j : Judged) → judged s ≡ j → AnswerWell (after_judging j s lent.lists (λ t. decode_sheet t lent)).answer
+    go (Refused n at) e = let k = early s n at e in (k.0, omega arith)
+    go Fine e = sheet_well (parsed s) lent
 
 pub numbered : NumberedTheorem
 numbered s lent n x y e = subst AnswerWell e (call_well s lent)

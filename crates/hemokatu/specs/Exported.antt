@@ -1,11 +1,13 @@
 -- What a C host sees: the version, the judge's verdict, the least sizes of the areas, and the answer, as numbers.
-use Rattle.std.specs.Prelude.{ℕ, ◌≤◌, ◌≡◌, cond, ◌&&◌, List, leb, Float}
-use Rattle.model.specs.declared.Judged.{Judged}
-use Rattle.model.specs.declared.Judged.TheVariants.{Fine, Refused}
+use Rattle.std.specs.Prelude.{ℕ, ◌≤◌, ◌≡◌, cond, ◌&&◌, List, leb, Float, Result}
+use Rattle.model.specs.Judge.{Judged}
+use Rattle.model.specs.Judge.{Fine, Refused}
 use Rattle.model.specs.Numbers.{f0}
 use Rattle.model.specs.Layout.{most_points, most_nodes}
 use Rattle.model.specs.Call.{Lent, Answer, refused, matched, Decoded, most_entries, decode}
-use Rattle.answers.specs.Room.{lists}
+use Rattle.model.specs.declared.error.DecodeError.{DecodeError}
+use Rattle.answers.specs.declared.Match.{Match}
+use Rattle.answers.specs.Room.{lists, answer_of}
 use Rattle.hemokatu.specs.declared.Judgement.{Judgement}
 use Rattle.hemokatu.specs.declared.Sizes.{Sizes}
 use Rattle.hemokatu.specs.declared.Answered.{Answered}
@@ -15,18 +17,18 @@ abbrev pub version : ℕ
 version = 200
 
 -- number 0 for a well-formed sheet
-unfoldable pub judgement_of : Judged → Judgement
+abbrev pub judgement_of : Judged → Judgement
 judgement_of Fine = record { number = 0; place = 0 }
 judgement_of (Refused number at) = record { number = number; place = at }
 
 -- what refusal 6 asks of the areas; zeros for counts above their limits, which refusal 2 names first
-unfoldable pub sizes_of : ℕ → ℕ → Sizes
+abbrev pub sizes_of : ℕ → ℕ → Sizes
 sizes_of points nodes = cond (leb points most_points && leb nodes most_nodes)
     (record { node = nodes; heap_least = 1; list = most_entries points nodes })
     (record { node = 0; heap_least = 0; list = 0 })
 
 -- number 0 for a match; zeros beside a refusal's number, A and B
-unfoldable pub answered_of : Answer → Answered
+abbrev pub answered_of : Answer → Answered
 answered_of (refused n a b) = record {
   number = n;
   a = a;
@@ -53,6 +55,10 @@ answered_of (matched m) = record {
   primary = m.primary;
   coverage = m.coverage;
 }
+
+-- r is the answer a as numbers
+abbrev pub IsAnswered : Result Match DecodeError → Answered → Type 0
+IsAnswered a r = r ≡ answered_of (answer_of a)
 
 -- a call gave r and left the lists ids and lengths, as the definition says
 abbrev pub AnsweredAs : Answered → List ℕ → List Float → Decoded → Type 0

@@ -5,13 +5,12 @@ ghost use Rattle.std.specs.Prelude.{◌≡◌, length};
 ghost use Rattle.model.specs.Judge.{judged};
 ghost use Rattle.model.specs.Call.{decode};
 ghost use Rattle.charge.specs.Roads.{charge};
-ghost use Rattle.answers.specs.Room.{lists, answer_of};
+ghost use Rattle.answers.specs.Room.{lists};
 ghost use Rattle.decoder.specs.Opened.{lent};
-ghost use Rattle.hemokatu.specs.Exported.{version, judgement_of, sizes_of, answered_of, AnsweredAs};
+ghost use Rattle.hemokatu.specs.Exported.{version, judgement_of, sizes_of, IsAnswered, AnsweredAs};
 
 use answers::Answer;
 use charge::{Charged, Tariff};
-use model::Judged;
 
 // 10000 major + 100 minor + patch: 0.2.0. The header and the crate in rust/ have the same.
 const VERSION: u32 = 200;
@@ -26,7 +25,7 @@ pub extern "C" fn hemokatu_version() -> u32
 
 // A refusal's number and its place A; both 0 for a well-formed sheet.
 #[repr(C)]
-#[derive(Clone, Copy)]
+#[derive(Clone, Copy, Default)]
 pub struct Judgement {
     pub number: usize,
     pub place: usize,
@@ -37,19 +36,18 @@ pub struct Judgement {
 pub extern "C" fn hemokatu_judge(sheet: &[u8]) -> Judgement
     ensures { result ≡ judgement_of (judged sheet.now) }
 {
-    let verdict = judge::judge(sheet);
-    match verdict {
-        Judged::Fine => Judgement {
-            number: 0,
-            place: 0,
+    match judge::judge(sheet) {
+        Ok(_) => Judgement::default(),
+        Err(e) => Judgement {
+            number: e.number(),
+            place: e.places().0,
         },
-        Judged::Refused(number, place) => Judgement { number, place },
     }
 }
 
 // The least entries of each area for a sheet of some points and nodes: a node area, the heap, and the coverage area or an answer list. An entry has two places in `labels`, `entries` and `links`. A larger heap lets larger searches end.
 #[repr(C)]
-#[derive(Clone, Copy)]
+#[derive(Clone, Copy, Default)]
 pub struct Sizes {
     pub node: usize,
     pub heap_least: usize,
@@ -61,27 +59,21 @@ pub struct Sizes {
 pub extern "C" fn hemokatu_sizes(points: usize, nodes: usize) -> Sizes
     ensures { result ≡ sizes_of points nodes }
 {
-    if points <= model::MOST_POINTS {
-        if nodes <= model::MOST_NODES {
-            let more = nodes + 1;
-            let most = (points + 4) * more;
-            return Sizes {
-                node: nodes,
-                heap_least: 1,
-                list: most,
-            };
-        }
+    if model::MOST_POINTS < points || model::MOST_NODES < nodes {
+        return Sizes::default();
     }
+    let more = nodes + 1;
+    let most = (points + 4) * more;
     Sizes {
-        node: 0,
-        heap_least: 0,
-        list: 0,
+        node: nodes,
+        heap_least: 1,
+        list: most,
     }
 }
 
 // All that a call answers. Number 0 is a match; a refusal has its number, A and B, and zeros elsewhere.
 #[repr(C)]
-#[derive(Clone, Copy)]
+#[derive(Clone, Copy, Default)]
 pub struct Answered {
     pub number: usize,
     pub a: usize,
@@ -99,37 +91,36 @@ pub struct Answered {
 // The number of a match.
 const MATCHED: usize = 0;
 
-// The answer as numbers.
-fn exported(answer: Answer) -> Answered
-    ensures { result ≡ answered_of (answer_of answer) }
-{
-    match answer {
-        Answer::Matched(m) => Answered {
-            number: MATCHED,
-            a: 0,
-            b: 0,
-            count: m.count,
-            length_m: m.length_m,
-            start_offset: m.start_offset,
-            start_fraction: m.start_fraction,
-            end_offset: m.end_offset,
-            end_fraction: m.end_fraction,
-            primary: m.primary,
-            coverage: m.coverage,
-        },
-        Answer::Refused(number, a, b) => Answered {
-            number,
-            a,
-            b,
-            count: 0,
-            length_m: 0.0,
-            start_offset: 0.0,
-            start_fraction: 0.0,
-            end_offset: 0.0,
-            end_fraction: 0.0,
-            primary: 0,
-            coverage: 0.0,
-        },
+impl From<Answer> for Answered {
+    ghost from_gives = { IsAnswered };
+
+    #[tactic(auto, unfolding(answers::specs::Room::answer_of))]
+    fn from(answer: Answer) -> Self {
+        match answer {
+            Ok(m) => Answered {
+                number: MATCHED,
+                a: 0,
+                b: 0,
+                count: m.count,
+                length_m: m.length_m,
+                start_offset: m.start_offset,
+                start_fraction: m.start_fraction,
+                end_offset: m.end_offset,
+                end_fraction: m.end_fraction,
+                primary: m.primary,
+                coverage: m.coverage,
+            },
+            Err(e) => {
+                let number = e.number();
+                let (a, b) = e.places();
+                Answered {
+                    number,
+                    a,
+                    b,
+                    ..Answered::default()
+                }
+            }
+        }
     }
 }
 
@@ -160,7 +151,7 @@ pub extern "C" fn hemokatu_decode(
     let found = decoder::decode(
         sheet, labels, came_from, entries, links, covered, coverage, ids, lengths,
     );
-    exported(found)
+    Answered::from(found)
 }
 
 // What a path costs at a tariff: the class and the length in metres of each road, in two lists that are only read.
@@ -168,5 +159,5 @@ pub extern "C" fn hemokatu_decode(
 pub extern "C" fn hemokatu_charge(tariff: Tariff, classes: &[u8], lengths: &[f64]) -> Charged
     ensures { result ≡ charge tariff classes.now lengths.now }
 {
-    charge::charge(tariff, classes, lengths)
+    Charged::from(charge::charge(tariff, classes, lengths))
 }

@@ -1,14 +1,10 @@
--- Marks for the numbers that were met: 1 for each number below `size` that is among f 0, f 1, .., k of them, and 0 for any other.
-use Rattle.std.specs.Prelude.{◌≡◌, ℕ, ◌<◌, Bool, true, false, List, slice_index}
+-- Marks for the numbers that were met: set for each number below `size` that is among f 0, f 1, .., k of them, and for no other.
+use Rattle.std.specs.Prelude.{◌≡◌, ℕ, ◌<◌, Bool, false, List, slice_index_or}
 use Rattle.model.specs.Table.{met}
 
-abbrev pub mark : Bool → ℕ
-mark true = 1
-mark false = 0
-
 -- none of the first `size` marks is set
-abbrev pub Clear : ℕ → List ℕ → Type 0
-Clear size marks = (v : ℕ) → v < size → slice_index marks v ≡ 0
+abbrev pub Clear : ℕ → List Bool → Type 0
+Clear size marks = (v : ℕ) → v < size → slice_index_or marks v false ≡ false
 
-abbrev pub Marks : (ℕ → ℕ) → ℕ → List ℕ → ℕ → Type 0
-Marks f size marks k = (v : ℕ) → v < size → slice_index marks v ≡ mark (met f v k)
+abbrev pub Marks : (ℕ → ℕ) → ℕ → List Bool → ℕ → Type 0
+Marks f size marks k = (v : ℕ) → v < size → slice_index_or marks v false ≡ met f v k

@@ -1,124 +1,87 @@
 // Refusals 1 to 5 in their order.
-ghost use Rattle.std.specs.Prelude.{◌≡◌, ◌+◌, ◌≤◌, not, ◌&&◌, ◌||◌, length, ◌==◌, nat_le};
-ghost use Rattle.model.specs.Bytes.{u32_at};
-ghost use Rattle.model.specs.Layout.{header_size, total, point_along_line};
-ghost use Rattle.model.specs.Judge.{counts_good, offsets_good, fields_good, judged, Small};
+ghost use Rattle.std.specs.Prelude.{◌≡◌, ◌≤◌, length, IfOk};
+ghost use Rattle.model.specs.Layout.{header_size, total, counts_of};
+ghost use Rattle.model.specs.Judge.{counts_good, offsets_good, fields_good, judged};
+ghost use Rattle.judge.specs.Verdict.{judged_as};
 
 use crate::{lists, rows};
-use model::{Counts, Judged, Verdict};
-use ranges::{Part, parts};
-use sheet::{layout, numbers};
-
-// `before`, and v is at most `most`.
-fn at_most(before: bool, v: usize, most: usize) -> bool
-    ensures { result ≡ (before && nat_le v most) }
-{
-    if before { v <= most } else { false }
-}
-
-// `before`, and a is b.
-fn same(before: bool, a: usize, b: usize) -> bool
-    ensures { result ≡ (before && a == b) }
-{
-    if before { a == b } else { false }
-}
-
-// `before`, and a point along a line has two points.
-fn two_points(before: bool, kind: usize, p: usize) -> bool
-    ensures { result ≡ (before && (not (kind == point_along_line) || p == 2)) }
-{
-    if before {
-        if kind == model::POINT_ALONG_LINE {
-            p == 2
-        } else {
-            true
-        }
-    } else {
-        false
-    }
-}
-
-// `before`, and the u32 at `at` is v.
-fn field_is(before: bool, s: &[u8], at: usize, v: usize) -> bool
-    requires { at + 4 ≤ length s.now }
-    ensures { result ≡ (before && u32_at s.now at == v) }
-{
-    same(before, fields::count_at(s, at), v)
-}
+use model::Counts;
+use model::error::DecodeError;
+use model::kind::Kind;
+use ranges::parts;
+use sheet::layout::Layout;
+use sheet::{Sheet, SoundSheet, numbers};
 
 // Refusal 2.
+#[tactic(auto, unfolding(model::specs::Judge::counts_good, model::specs::Table::all_of, model::specs::Table::all_after))]
 fn counts_good(c: Counts) -> bool
     ensures { result ≡ counts_good c }
 {
-    let v = at_most(true, c.p, model::MOST_POINTS);
-    let v = at_most(v, c.n, model::MOST_NODES);
-    let v = at_most(v, c.e, model::MOST_ROADS);
-    let v = at_most(v, c.m, model::MOST_ROWS);
-    let v = at_most(v, c.g, model::MOST_GOALS);
-    two_points(v, c.kind, c.p)
+    c.p <= model::MOST_POINTS
+        && c.n <= model::MOST_NODES
+        && c.e <= model::MOST_ROADS
+        && c.m <= model::MOST_ROWS
+        && c.g <= model::MOST_GOALS
+        && (c.kind != Kind::PointAlongLine.number() || c.p == 2)
 }
 
 // Refusal 3.
-fn offsets_good(s: &[u8], c: Counts) -> bool
-    requires { (header_size ≤ length s.now) × Small c }
-    ensures { result ≡ offsets_good s.now c }
+#[tactic(auto, unfolding(model::specs::Judge::offsets_good, model::specs::Table::all_of, model::specs::Table::all_after))]
+fn offsets_good(s: &[u8], layout: Layout) -> bool
+    requires { header_size ≤ length s.now }
+    ensures { result ≡ offsets_good s.now layout.counts }
 {
-    let total = layout::total(c);
-    let v = field_is(true, s, 24, 56);
-    let v = field_is(v, s, 28, 168);
-    let v = field_is(v, s, 32, layout::roads_at(c));
-    let v = field_is(v, s, 36, layout::lists_at(c));
-    let v = field_is(v, s, 40, layout::rows_at(c));
-    let v = field_is(v, s, 44, layout::distances_at(c));
-    let v = field_is(v, s, 48, total);
-    let v = same(v, total, s.len());
-    field_is(v, s, 52, 0)
+    let total = layout.total();
+    fields::count_at(s, 24) == 56
+        && fields::count_at(s, 28) == 168
+        && fields::count_at(s, 32) == layout.roads()
+        && fields::count_at(s, 36) == layout.lists()
+        && fields::count_at(s, 40) == layout.rows()
+        && fields::count_at(s, 44) == layout.distances()
+        && fields::count_at(s, 48) == total
+        && total == s.len()
+        && fields::count_at(s, 52) == 0
 }
 
-// Refusal 4.
-fn fields_good(s: &[u8], c: Counts) -> Verdict
-    requires { (length s.now ≡ total c) × Small c }
-    ensures { result ≡ fields_good s.now c }
+// Refusal 4: where the first bad field begins.
+#[tactic(auto, using(crate::proofs::Thens::ok_then, crate::proofs::Thens::err_then), unfolding(model::specs::Judge::fields_good, model::specs::Table::first_bad, model::specs::Table::first_bad_after))]
+#[inline(never)]
+fn fields_good(s: &[u8], layout: Layout) -> Result<(), usize>
+    requires { length s.now ≡ total layout.counts }
+    ensures { result ≡ fields_good s.now layout.counts }
 {
-    let roads = layout::roads_at(c);
-    let numbers = layout::numbers_at(c);
-    let rows = layout::rows_at(c);
-    let distances = layout::distances_at(c);
-    let goals = layout::goals_at(c);
-    let width = layout::goal_width(c);
-    let v = parts::after(Verdict::Good, s, Part::Header, 4, 1, 0, 0);
-    let v = parts::after(v, s, Part::Settings, 112, 1, 56, 0);
-    let v = parts::after(v, s, Part::Point, 24, c.p, 168, 0);
-    let v = parts::after(v, s, Part::Road, 32, c.e, roads, c.n);
-    let v = parts::numbers(v, s, c.e, numbers, c.e);
-    let v = parts::after(v, s, Part::Row, 40, c.m, rows, c.e);
-    let v = parts::distances(v, s, c.n + c.n, distances);
-    parts::after(v, s, Part::Goal, width, c.g, goals, c.n)
+    let counts = layout.counts;
+    parts::header(s)?;
+    parts::settings(s)?;
+    parts::points(s, counts.p)?;
+    parts::roads(s, layout.roads(), counts.e, counts.n)?;
+    parts::numbers(s, layout.numbers(), counts.e, counts.e)?;
+    parts::rows(s, layout.rows(), counts.m, counts.e)?;
+    parts::distances(s, layout.distances(), counts.n + counts.n)?;
+    parts::goals(s, layout.goals(), counts.g, counts.n)
 }
 
-// The first of refusals 1 to 5, with its place A.
-pub fn judge(s: &[u8]) -> Judged
-    ensures { result ≡ judged s.now }
+// A well-formed sheet of these bytes, or the first of refusals 1 to 5.
+#[tactic(auto, using(model::proofs::Judging::small, model::proofs::Judging::whole), unfolding(model::specs::Judge::judged, model::specs::Judge::refuse, model::specs::Judge::refuse_field))]
+pub fn judge(bytes: &[u8]) -> Result<Sheet<'_>, DecodeError>
+    ensures judged { judged_as result ≡ judged bytes.now }
+    ensures sheet { IfOk result (λ sheet. (sheet.bytes.now ≡ bytes.now) × (sheet.counts ≡ counts_of bytes.now)) }
 {
-    if s.len() < 56 {
-        return Judged::Refused(1, 0);
+    if bytes.len() < 56 {
+        return Err(DecodeError::TooShort);
     }
-    let c = numbers::counts(s);
-    if !counts_good(c) {
-        return Judged::Refused(2, 0);
+    let counts = numbers::counts(bytes);
+    if !counts_good(counts) {
+        return Err(DecodeError::BadCounts);
     }
-    if !offsets_good(s, c) {
-        return Judged::Refused(3, 0);
+    let layout = Layout { counts };
+    if !offsets_good(bytes, layout) {
+        return Err(DecodeError::BadOffsets);
     }
-    let v = fields_good(s, c);
-    if let Verdict::Bad(a) = v {
-        return Judged::Refused(4, a);
+    fields_good(bytes, layout).map_err(|at| DecodeError::BadField { at })?;
+    let sound = SoundSheet { bytes, counts };
+    if !lists::lists_good(&sound) || !rows::rows_good(&sound) {
+        return Err(DecodeError::BadOrder);
     }
-    if !lists::lists_good(s, c) {
-        return Judged::Refused(5, 0);
-    }
-    if !rows::rows_good(s, c) {
-        return Judged::Refused(5, 0);
-    }
-    Judged::Fine
+    Ok(Sheet { bytes, counts })
 }

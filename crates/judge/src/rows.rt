@@ -1,146 +1,138 @@
 // Refusal 5: the rows and the goals.
-ghost use Rattle.std.specs.Prelude.{◌≡◌, ◌+◌, ◌-◌, ◌<◌, ◌≤◌, length};
+ghost use Rattle.std.specs.Prelude.{◌≡◌, ℕ, ◌+◌, ◌-◌, ◌^◌, ◌<◌, ◌≤◌, length, nat_lt};
+ghost use Rattle.model.specs.Layout.{most_nodes};
 ghost use Rattle.model.specs.Table.{every};
-ghost use Rattle.model.specs.Judge.{Sound, row_count, rows_before, row_rises, point_rises, goal_rises, has_goal, goal_node, rows_good};
-ghost use Rattle.judge.specs.Marks.{Clear, Marks};
+ghost use Rattle.model.specs.Judge.{rows_before, row_rises, point_rises, goal_rises, goal_node, rows_good};
+ghost use Rattle.judge.specs.Marks.{Marks, Clear};
+ghost use Rattle.judge.specs.Rows.{Gives, goals_cover};
 
-use model::Counts;
-use sheet::numbers;
+use model::MOST_NODES;
+use sheet::SoundSheet;
 
 // The rows of all points.
-fn all_rows(s: &[u8], c: Counts) -> usize
-    requires { Sound s.now c }
-    ensures { result ≡ rows_before s.now c.p }
+#[tactic(auto, using(model::proofs::RowSums::before_none, model::proofs::RowSums::before_next))]
+fn all_rows(sheet: &SoundSheet<'_>) -> usize
+    ensures { result ≡ rows_before sheet.now.bytes.now sheet.now.counts.p }
 {
-    let p = c.p;
     let mut sum = 0;
-    let mut i = 0;
-    while i < p {
-        sum += numbers::row_count(s, c, i);
-        i += 1;
+    for i in 0..sheet.counts.p {
+        sum += sheet.row_count(i);
     }
     sum
 }
 
-// The roads of k rows rise.
-fn roads_rise(s: &[u8], c: Counts, from: usize, k: usize) -> bool
-    requires { Sound s.now c × (from + k ≤ c.m) }
-    ensures { result ≡ every (row_rises s.now c) (k - 1) from }
+// The numbers at k places from `from` on rise.
+fn rise<F: Fn(usize) -> usize>(from: usize, k: usize, number: F) -> bool
+    requires fits { from + k < 2 ^ 64 }
+    requires callable { (i : ℕ) → from ≤ i → i < from + k → F.pre number i }
+    ensures { (f : ℕ → ℕ) → Gives f from k (F.post number) → result ≡ every (λ i. nat_lt (f i) (f (i + 1))) (k - 1) from }
 {
-    let mut at = from;
-    let mut left = k;
-    while 1 < left {
-        if numbers::row_road(s, c, at + 1) <= numbers::row_road(s, c, at) {
+    for i in from..(from + k).saturating_sub(1) {
+        if number(i + 1) <= number(i) {
             return false;
         }
-        at += 1;
-        left -= 1;
-    }
-    true
-}
-
-// They do so at each point.
-fn points_rise(s: &[u8], c: Counts) -> bool
-    requires { Sound s.now c × (rows_before s.now c.p ≡ c.m) }
-    ensures { result ≡ every (point_rises s.now c) c.p 0 }
-{
-    let mut from = 0;
-    let mut i = 0;
-    let mut left = c.p;
-    while 0 < left {
-        let k = numbers::row_count(s, c, i);
-        if !roads_rise(s, c, from, k) {
-            return false;
-        }
-        from += k;
-        i += 1;
-        left -= 1;
     }
     true
 }
 
 // The nodes of the goal rows rise.
-fn goals_rise(s: &[u8], c: Counts) -> bool
-    requires { Sound s.now c }
-    ensures { result ≡ every (goal_rises s.now c) (c.g - 1) 0 }
+fn goals_rise(sheet: &SoundSheet<'_>) -> bool
+    ensures { result ≡ every (goal_rises sheet.now.bytes.now sheet.now.counts) (sheet.now.counts.g - 1) 0 }
 {
-    let mut at = 0;
-    let mut left = c.g;
-    while 1 < left {
-        if numbers::goal_node(s, c, at + 1) <= numbers::goal_node(s, c, at) {
-            return false;
-        }
-        at += 1;
-        left -= 1;
-    }
-    true
+    rise(0, sheet.counts.g, |k| sheet.goal_node(k))
 }
 
 // A mark for each node that has a goal row.
-fn goal_marks(s: &[u8], c: Counts, marks: &mut [u8])
-    requires { Sound s.now c × (c.n ≤ length marks.old) × Clear c.n marks.old }
-    ensures { Marks (goal_node s.now c) c.n marks.new c.g }
+#[tactic(auto, using(crate::proofs::Marking::marks_none))]
+fn mark_goals(sheet: &SoundSheet<'_>, marks: &mut [bool])
+    requires { (sheet.now.counts.n ≤ length marks.old) × Clear sheet.now.counts.n marks.old }
+    ensures { Marks (goal_node sheet.now.bytes.now sheet.now.counts) sheet.now.counts.n marks.new sheet.now.counts.g }
 {
-    let g = c.g;
-    let mut k = 0;
-    while k < g {
-        let v = numbers::goal_node(s, c, k);
-        marks[v] = 1;
-        k += 1;
+    for k in 0..sheet.counts.g {
+        marks[sheet.goal_node(k)] = true;
     }
 }
 
-// The source of the road of each row after the first point's is marked.
-fn sources_marked(s: &[u8], c: Counts, marks: &[u8]) -> bool
-    requires { Sound s.now c × (rows_before s.now c.p ≡ c.m) × (0 < c.p) × (c.n ≤ length marks.now) × Marks (goal_node s.now c) c.n marks.now c.g }
-    ensures { result ≡ every (has_goal s.now c) (c.m - row_count s.now 0) (row_count s.now 0) }
-{
-    let first = numbers::row_count(s, c, 0);
-    let mut k = first;
-    let mut left = c.m - first;
-    while 0 < left {
-        let r = numbers::row_road(s, c, k);
-        let v = numbers::source(s, c, r);
-        if marks[v] == 0 {
-            return false;
+// A sheet whose row counts add up to M.
+#[derive(Clone, Copy)]
+struct CountedSheet<'a> {
+    sound: SoundSheet<'a>,
+    ghost counted: { rows_before sound.bytes.now sound.counts.p ≡ sound.counts.m },
+}
+
+impl CountedSheet<'_> {
+    // The roads of k rows rise.
+    fn roads_rise(&self, from: usize, k: usize) -> bool
+        requires { from + k ≤ self.now.sound.counts.m }
+        ensures { result ≡ every (row_rises self.now.sound.bytes.now self.now.sound.counts) (k - 1) from }
+    {
+        rise(from, k, |row| self.sound.row_road(row))
+    }
+
+    // They do so at each point.
+    #[tactic(auto, using(model::proofs::RowSums::before_none, model::proofs::RowSums::before_next, model::proofs::RowSums::before_le))]
+    fn points_rise(&self) -> bool
+        ensures { result ≡ every (point_rises self.now.sound.bytes.now self.now.sound.counts) self.now.sound.counts.p 0 }
+    {
+        let mut from = 0;
+        for i in 0..self.sound.counts.p {
+            let k = self.sound.row_count(i);
+            if !self.roads_rise(from, k) {
+                return false;
+            }
+            from += k;
         }
-        k += 1;
-        left -= 1;
+        true
     }
-    true
-}
 
-// The source of the road of each row after the first point's has a goal row: marks for few nodes, or for all that a sheet can have.
-fn goals_cover(s: &[u8], c: Counts) -> bool
-    requires { Sound s.now c × (rows_before s.now c.p ≡ c.m) × (0 < c.p) }
-    ensures { result ≡ every (has_goal s.now c) (c.m - row_count s.now 0) (row_count s.now 0) }
-{
-    if c.n <= 128 {
-        let mut few = [0u8; 128];
-        goal_marks(s, c, &mut few);
-        return sources_marked(s, c, &few);
+    // The source of the road of each row after the first point's is marked.
+    fn sources_marked(&self, marks: &[bool]) -> bool
+        requires { (0 < self.now.sound.counts.p) × (self.now.sound.counts.n ≤ length marks.now) × Marks (goal_node self.now.sound.bytes.now self.now.sound.counts) self.now.sound.counts.n marks.now self.now.sound.counts.g }
+        ensures { result ≡ goals_cover self.now.sound.bytes.now self.now.sound.counts }
+    {
+        for k in self.sound.row_count(0)..self.sound.counts.m {
+            let road = self.sound.row_road(k);
+            if !marks[self.sound.source(road)] {
+                return false;
+            }
+        }
+        true
     }
-    let mut marks = [0u8; model::MOST_NODES];
-    goal_marks(s, c, &mut marks);
-    sources_marked(s, c, &marks)
+
+    // That source has a goal row; N marks are enough.
+    fn goals_cover_with<const N: usize>(&self) -> bool
+        requires { (0 < self.now.sound.counts.p) × (self.now.sound.counts.n ≤ N) × (N ≤ most_nodes) }
+        ensures { result ≡ goals_cover self.now.sound.bytes.now self.now.sound.counts }
+    {
+        let mut marks = [false; N];
+        mark_goals(&self.sound, &mut marks);
+        self.sources_marked(&marks)
+    }
+
+    // The same, with marks for few nodes, or for all that a sheet can have. A sheet without points has no rows.
+    #[tactic(auto, using(crate::proofs::Tests::no_rows))]
+    fn goals_cover(&self) -> bool
+        ensures { result ≡ goals_cover self.now.sound.bytes.now self.now.sound.counts }
+    {
+        if self.sound.counts.p == 0 {
+            true
+        } else if self.sound.counts.n <= 128 {
+            self.goals_cover_with::<128>()
+        } else {
+            self.goals_cover_with::<MOST_NODES>()
+        }
+    }
 }
 
 // The row counts add up to M, roads and goals rise, and goal rows cover the rows.
-pub(crate) fn rows_good(s: &[u8], c: Counts) -> bool
-    requires { Sound s.now c }
-    ensures { result ≡ rows_good s.now c }
+#[tactic(auto, unfolding(model::specs::Judge::rows_good, model::specs::Table::all_of, model::specs::Table::all_after))]
+#[inline(never)]
+pub(crate) fn rows_good(sheet: &SoundSheet<'_>) -> bool
+    ensures { result ≡ rows_good sheet.now.bytes.now sheet.now.counts }
 {
-    if all_rows(s, c) != c.m {
+    if all_rows(sheet) != sheet.counts.m {
         return false;
     }
-    if !points_rise(s, c) {
-        return false;
-    }
-    if !goals_rise(s, c) {
-        return false;
-    }
-    if c.p == 0 {
-        return true;
-    }
-    goals_cover(s, c)
+    let counted = CountedSheet { sound: *sheet };
+    counted.points_rise() && goals_rise(sheet) && counted.goals_cover()
 }

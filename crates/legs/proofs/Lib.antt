@@ -1,4 +1,3 @@
 pub mod Middles
-pub mod InOrder
 pub mod Going
 pub mod Ending

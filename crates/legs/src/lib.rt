@@ -1,103 +1,75 @@
 // One leg: the way between two candidates' roads, the pairs one after the other, and find_best_path.
 #![tactic(auto)]
 
-pub mod middle;
-pub mod tries;
+mod middle;
+mod tries;
 
-ghost use Rattle.std.specs.Prelude.{◌≡◌, ℕ, ◌<◌};
-ghost use Rattle.model.specs.Judge.{WellFormed};
-ghost use Rattle.model.specs.Sheet.{sheet_of};
-ghost use Rattle.model.specs.Legs.{MiddleSearch, leg_end, find_best_path};
-ghost use Rattle.candidates.specs.Found.{held, CandidatesReady};
-ghost use Rattle.rules.specs.Code.{best_of};
-ghost use Rattle.pair_plans.specs.Turns.{Remembers};
-ghost use Rattle.search.specs.Areas.{SearchRoom};
-ghost use Rattle.legs.specs.Found.{middle_search_at, end_after_pairs, leg_end_of, winner_of, Priced, Led};
+ghost use Rattle.bounds.specs.Amounts.{Amount};
 
-use candidates::find::Candidates;
-use model::{Counts, Limits};
-use pair_plans::{PairTurn, Phase};
-use rules::{Best, Middle, PathResult, routes, same_edge};
+use candidates::candidate::Candidate;
+use model::Limits;
+use rules::{PathResult, same_edge};
+use search::HeapFull;
+use search::areas::SearchAreas;
+use sheet::Sheet;
 
-// What a leg finds: its best route, whose middle its search finds; no path; or the heap used up.
+// A leg over a sheet, with what it accepts. Its penalties are amounts, so that labels never fall along a way.
 #[derive(Clone, Copy)]
-pub enum LegEnd {
-    Best(PathResult),
+pub struct Leg<'a> {
+    pub sheet: Sheet<'a>,
+    pub limits: Limits,
+    ghost priced: { Amount limits.constraints.slip_road_cost_penalty × Amount limits.constraints.access_road_cost_penalty },
+}
+
+// Why a leg has no path.
+#[derive(Clone, Copy)]
+pub enum LegError {
     NoPath,
     HeapFull,
 }
 
-// The best route, if there is one.
-fn best_or_none(best: Best) -> LegEnd
-    ensures means { (search : MiddleSearch) → leg_end_of search result ≡ leg_end (best_of search best) }
-    ensures remembers { (search : MiddleSearch) (n : ℕ) → Remembers search n best.path.middle → Remembers search n (winner_of result) }
-{
-    if best.found {
-        let route = best.path;
-        return LegEnd::Best(route);
-    }
-    LegEnd::NoPath
-}
+impl From<HeapFull> for LegError {
+    ghost use Rattle.std.specs.Prelude.{◌≡◌};
+    ghost use Rattle.legs.specs.declared.LegError.{LegError};
 
-// How a leg ends, by the state after its pairs.
-fn after_pairs(st: PairTurn) -> LegEnd
-    ensures means { (search : MiddleSearch) → leg_end_of search result ≡ end_after_pairs search st }
-    ensures remembers { (search : MiddleSearch) (n : ℕ) → Remembers search n st.best.path.middle → Remembers search n (winner_of result) }
-{
-    let phase = st.phase;
-    let best = st.best;
-    match phase {
-        Phase::On => best_or_none(best),
-        Phase::Full => LegEnd::HeapFull,
+    ghost from_gives = { λ _ e. e ≡ LegError.HeapFull };
+
+    fn from(_full: HeapFull) -> LegError {
+        LegError::HeapFull
     }
 }
 
-// The middle of the route that a leg found; without roads where it found none.
-fn winner(found: LegEnd) -> Middle
-    ensures { result ≡ winner_of found }
-{
-    let none = Middle {
-        start: 0,
-        goal: 0,
-        bound: 0.0,
-        count: 0,
-    };
-    match found {
-        LegEnd::Best(route) => route.middle,
-        LegEnd::NoPath => none,
-        LegEnd::HeapFull => none,
-    }
-}
+impl Leg<'_> {
+    ghost use Rattle.std.specs.Prelude.{◌≡◌, IfOk};
+    ghost use Rattle.model.specs.Legs.{find_best_path};
+    ghost use Rattle.sheet.specs.Contents.{contents};
+    ghost use Rattle.candidates.specs.Found.{held, CandidatesReady};
+    ghost use Rattle.search.specs.Areas.{SameRoom};
+    ghost use Rattle.legs.specs.Found.{search_of, leg_end_of, Led};
 
-// The best route of a leg from its starts to its ends. A solution on one road wins outright; else the pairs decide, and the winning pair is searched once more, so that the marks lead back over its roads.
-pub fn find_best_path(
-    s: &[u8],
-    c: Counts,
-    b: Limits,
-    starts: Candidates,
-    ends: Candidates,
-    slots: usize,
-    labels: &mut [f64],
-    came_from: &mut [usize],
-    entries: &mut [f64],
-    links: &mut [usize],
-) -> LegEnd
-    requires well_formed { WellFormed s.now c × Priced b × (0 < c.n) × CandidatesReady c starts × CandidatesReady c ends }
-    requires search_room { SearchRoom c.n slots labels.old came_from.old entries.old links.old }
-    ensures means { leg_end_of (middle_search_at (sheet_of s.now c) slots b) result
-        ≡ find_best_path b (middle_search_at (sheet_of s.now c) slots b) (held (sheet_of s.now c) starts) (held (sheet_of s.now c) ends) }
-    ensures led { Led (sheet_of s.now c) c (middle_search_at (sheet_of s.now c) slots b) came_from.new (winner_of result) }
-{
-    let same = same_edge::try_same_edge_solution(s, c, b, starts, ends);
-    if same.found {
-        let single = routes::without_middle(same);
-        return best_or_none(single);
+    // The leg's best route from its starts to its ends. A solution on one road wins outright; else the pairs decide, and the winning pair is searched once more, so that the marks lead back over its roads.
+    #[tactic(auto, using(crate::proofs::Ending::outright, crate::proofs::Ending::by_pairs, rules::proofs::Alone::best_alone), unfolding(model::specs::Legs::next_pair, model::specs::Legs::leg_end))]
+    pub fn find_best_path(
+        &self,
+        starts: &[Candidate],
+        ends: &[Candidate],
+        areas: &mut SearchAreas<'_>,
+    ) -> Result<PathResult, LegError>
+        requires ready { CandidatesReady self.now.sheet.counts starts.now × CandidatesReady self.now.sheet.counts ends.now }
+        requires room { areas.old.nodes ≡ self.now.sheet.counts.n }
+        ensures same_room { SameRoom areas.old areas.new }
+        ensures means { leg_end_of (search_of self.now areas.old) result
+            ≡ find_best_path self.now.limits (search_of self.now areas.old) (held (contents self.now.sheet) starts.now) (held (contents self.now.sheet) ends.now) }
+        ensures led { IfOk result (λ route. Led self.now (search_of self.now areas.old) areas.new route.middle) }
+    {
+        let single = same_edge::try_same_edge_solution(&self.sheet, self.limits, starts, ends);
+        if let Some(best) = single {
+            return Ok(best.path);
+        }
+        let Some(best) = self.try_pairs(starts, ends, areas)? else {
+            return Err(LegError::NoPath);
+        };
+        self.search_again(best.path.middle, areas);
+        Ok(best.path)
     }
-    let st = tries::try_pairs(
-        s, c, b, starts, ends, slots, labels, came_from, entries, links,
-    );
-    let found = after_pairs(st);
-    let m = winner(found);
-    middle::search_again(s, c, b, m, slots, labels, came_from, entries, links);
-    found
 }

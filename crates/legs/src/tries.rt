@@ -1,129 +1,78 @@
 // The pairs of a leg, one after the other.
-ghost use Rattle.std.specs.Prelude.{◌≡◌, ◌≤◌, ◌<◌};
-ghost use Rattle.std.proofs.Math.Option.{none};
-ghost use Rattle.model.specs.Lists.{sort};
-ghost use Rattle.model.specs.Judge.{WellFormed};
-ghost use Rattle.model.specs.Sheet.{sheet_of};
-ghost use Rattle.model.specs.Legs.{pair, pairs, by_sum, try_pair, try_pairs};
-ghost use Rattle.candidates.specs.Found.{at_road, held, CandidatesReady};
-ghost use Rattle.rules.specs.Code.{best_of};
-ghost use Rattle.pair_plans.specs.Turns.{turn_of, Remembers};
-ghost use Rattle.search.specs.Areas.{SearchRoom};
-ghost use Rattle.legs.specs.Found.{middle_search_at, end_after_pairs, place_after, Priced};
-
-use crate::middle;
+use crate::Leg;
 use candidates::candidate::Candidate;
-use candidates::find::{Candidates, MOST_TRIED};
-use model::{Counts, Limits};
-use pair_plans::{PairTurn, Phase, turns};
-use rules::{Best, routes};
-use sheet::roads;
+use candidates::find::MOST_TRIED;
+use pair_plans::{PairPlan, turns};
+use rules::{Pair, Scored, routes};
+use search::HeapFull;
+use search::areas::SearchAreas;
 
-// One pair: its plan, the search if it needs one, and what comes of it. The best so far remembers its search.
-pub fn try_pair(
-    s: &[u8],
-    c: Counts,
-    b: Limits,
-    start: Candidate,
-    end: Candidate,
-    best: Best,
-    slots: usize,
-    labels: &mut [f64],
-    came_from: &mut [usize],
-    entries: &mut [f64],
-    links: &mut [usize],
-) -> PairTurn
-    requires well_formed { WellFormed s.now c × Priced b × (start.edge_idx < c.e) × (end.edge_idx < c.e) }
-    requires search_room { SearchRoom c.n slots labels.old came_from.old entries.old links.old }
-    ensures means { turn_of result.phase (best_of (middle_search_at (sheet_of s.now c) slots b) result.best)
-        ≡ try_pair b (middle_search_at (sheet_of s.now c) slots b) (best_of (middle_search_at (sheet_of s.now c) slots b) best) (pair (at_road (sheet_of s.now c) start) (at_road (sheet_of s.now c) end)) }
-    ensures remembers { Remembers (middle_search_at (sheet_of s.now c) slots b) c.n best.path.middle → Remembers (middle_search_at (sheet_of s.now c) slots b) c.n result.best.path.middle }
-{
-    let from = start.edge_idx;
-    let to = end.edge_idx;
-    let first = roads::road(s, c, from);
-    let last = roads::road(s, c, to);
-    let p = turns::plan_pair(b, start, first, end, last);
-    let a = turns::search_need(p);
-    let m = middle::middle(
-        s,
-        c,
-        b,
-        a,
-        first.target,
-        last.source,
-        slots,
-        labels,
-        came_from,
-        entries,
-        links,
-    );
-    turns::finish_pair(b, start, first, end, last, best, p, m)
-}
+impl Leg<'_> {
+    ghost use Rattle.std.specs.Prelude.{◌≡◌, ◌<◌, IfOk};
+    ghost use Rattle.std.proofs.Math.Option.{none};
+    ghost use Rattle.model.specs.Lists.{sort};
+    ghost use Rattle.model.specs.Legs.{pair, pairs, by_sum, try_pair, try_pairs};
+    ghost use Rattle.sheet.specs.Contents.{contents};
+    ghost use Rattle.candidates.specs.Found.{at_road, held, CandidatesReady};
+    ghost use Rattle.rules.specs.Code.{best_of};
+    ghost use Rattle.pair_plans.specs.Turns.{turn_of, Remembers};
+    ghost use Rattle.search.specs.Areas.{SameRoom};
+    ghost use Rattle.legs.specs.Found.{search_of, end_after_pairs};
 
-// The place of the next pair among n: past the last one where the leg is decided.
-fn next_place(phase: Phase, t: usize, n: usize) -> usize
-    requires { (t < n) × (n ≤ 100) }
-    ensures { result ≡ place_after phase t n }
-{
-    match phase {
-        Phase::On => t + 1,
-        Phase::Full => n,
-    }
-}
-
-// The pairs in the order of their sums, until one cannot win or the heap is used up.
-pub fn try_pairs(
-    s: &[u8],
-    c: Counts,
-    b: Limits,
-    starts: Candidates,
-    ends: Candidates,
-    slots: usize,
-    labels: &mut [f64],
-    came_from: &mut [usize],
-    entries: &mut [f64],
-    links: &mut [usize],
-) -> PairTurn
-    requires well_formed { WellFormed s.now c × Priced b × CandidatesReady c starts × CandidatesReady c ends }
-    requires search_room { SearchRoom c.n slots labels.old came_from.old entries.old links.old }
-    ensures means { end_after_pairs (middle_search_at (sheet_of s.now c) slots b) result
-        ≡ try_pairs b (middle_search_at (sheet_of s.now c) slots b) (sort by_sum (pairs (held (sheet_of s.now c) starts) (held (sheet_of s.now c) ends))) none }
-    ensures remembers { Remembers (middle_search_at (sheet_of s.now c) slots b) c.n result.best.path.middle }
-{
-    let count = starts.count * ends.count;
-    let mut by_start = [0.0; MOST_TRIED];
-    let mut by_end = [0.0; MOST_TRIED];
-    let mut k = 0;
-    'fill: while k < MOST_TRIED {
-        let x = starts.items[k];
-        let y = ends.items[k];
-        by_start[k] = x.score;
-        by_end[k] = y.score;
-        k += 1;
-    }
-    let mut heads = [0usize; MOST_TRIED];
-    let unset = routes::no_best();
-    let mut st = PairTurn {
-        phase: Phase::On,
-        best: unset,
-    };
-    let mut t = 0;
-    while t < count {
-        let next = pairs::next_pair(&by_start, starts.count, &by_end, ends.count, &mut heads);
-        let best = st.best;
-        let i = next.start;
-        let j = next.end;
-        let first = starts.items[i];
-        let last = ends.items[j];
-        if routes::best_score(best) <= first.score + last.score {
-            return st;
+    // The best so far after one pair: by its plan, and by a search if it needs one.
+    #[tactic(auto, unfolding(model::specs::Legs::try_pair, model::specs::Legs::after_pair, model::specs::Legs::middle_of))]
+    fn try_pair(
+        &self,
+        start: &Candidate,
+        end: &Candidate,
+        best: Option<Scored>,
+        areas: &mut SearchAreas<'_>,
+    ) -> Result<Option<Scored>, HeapFull>
+        requires roads { (start.now.edge_idx < self.now.sheet.counts.e) × (end.now.edge_idx < self.now.sheet.counts.e) }
+        requires room { areas.old.nodes ≡ self.now.sheet.counts.n }
+        ensures same_room { SameRoom areas.old areas.new }
+        ensures means { turn_of (search_of self.now areas.old) result
+            ≡ try_pair self.now.limits (search_of self.now areas.old) (best_of (search_of self.now areas.old) best) (pair (at_road (contents self.now.sheet) start.now) (at_road (contents self.now.sheet) end.now)) }
+        ensures remembers { Remembers (search_of self.now areas.old) self.now.sheet.counts.n best → IfOk result (Remembers (search_of self.now areas.old) self.now.sheet.counts.n) }
+    {
+        let pair = Pair::new(&self.sheet, start, end);
+        match turns::plan_pair(self.limits, &pair) {
+            PairPlan::Skip => Ok(best),
+            PairPlan::SameEdge(way) => Ok(routes::improve(best, way)),
+            PairPlan::Search(bound) => {
+                let from = pair.start.road.target;
+                let to = pair.end.road.source;
+                let found = self.middle(from, to, bound, areas);
+                turns::after_search(self.limits, &pair, best, bound, found)
+            }
         }
-        st = try_pair(
-            s, c, b, first, last, best, slots, labels, came_from, entries, links,
-        );
-        let phase = st.phase;
-        t = next_place(phase, t, count);
     }
-    st
+
+    // The best after the pairs in the order of their sums, until one cannot win or the heap is used up.
+    #[tactic(auto, using(crate::proofs::Going::all_tried, candidates::proofs::Inserting::length_sort), unfolding(model::specs::Legs::next_pair))]
+    pub(crate) fn try_pairs(
+        &self,
+        starts: &[Candidate],
+        ends: &[Candidate],
+        areas: &mut SearchAreas<'_>,
+    ) -> Result<Option<Scored>, HeapFull>
+        requires ready { CandidatesReady self.now.sheet.counts starts.now × CandidatesReady self.now.sheet.counts ends.now }
+        requires room { areas.old.nodes ≡ self.now.sheet.counts.n }
+        ensures same_room { SameRoom areas.old areas.new }
+        ensures means { end_after_pairs (search_of self.now areas.old) result
+            ≡ try_pairs self.now.limits (search_of self.now areas.old) (sort by_sum (pairs (held (contents self.now.sheet) starts.now) (held (contents self.now.sheet) ends.now))) none }
+        ensures remembers { IfOk result (Remembers (search_of self.now areas.old) self.now.sheet.counts.n) }
+    {
+        let mut heads = [0usize; MOST_TRIED];
+        let mut best = None;
+        while let Some(next) = pairs::next_pair(starts, ends, &mut heads) {
+            let first = &starts[next.start];
+            let last = &ends[next.end];
+            if routes::best_score(&best) <= first.score + last.score {
+                return Ok(best);
+            }
+            best = self.try_pair(first, last, best, areas)?;
+        }
+        Ok(best)
+    }
 }

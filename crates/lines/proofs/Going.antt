@@ -1,35 +1,45 @@
--- The loop over the legs: from the next leg on the definition comes to what it comes to from the first, or a refusal stands.
-use Prim.Native.Nat.{ℕ, zero, suc, ◌+◌, ◌-◌, ◌*◌, ◌≤◌, ◌<◌}
-use mathlib.Core.Path.{◌≡◌, refl, sym, ap, ◌∙◌}
-use mathlib.Core.Bool.{Bool, true, false, cond}
-use mathlib.Core.List.{List, ◌++◌}
-use native.Mathlib.Nat.{mul-le-mul, add-mul, zero-mul}
-use native.Mathlib.Omega.{arith}
-use borrow.Author.Tests.{eq-eqb}
-use lib.Dec.{eqb}
-use lib.ListN.{take}
-use lib.Ieee.{Float}
+-- The legs one after the other: what they leave, and what the definition comes to from the next one on.
+use Rattle.std.proofs.Common.{◌≡◌, ℕ, ◌+◌, ◌*◌, ◌≤◌, ◌<◌, Bool, true, false, cond, eqb, List, [], ◌∷◌, ◌++◌, take, Ok, Err, refl, sym, ap, ◌∙◌, arith, append-nil}
+use Rattle.std.proofs.Math.Seq.{append_snoc}
+use native.Mathlib.Nat.{mul-le-mul, add-mul}
+use Rattle.std.specs.Float.Ieee.{Float}
 use Rattle.model.specs.declared.Counts.{Counts}
+use Rattle.model.specs.declared.error.DecodeError.{DecodeError}
 use Rattle.model.specs.Numbers.{◌⊕◌}
-use Rattle.model.specs.Lists.{tabulate, last}
+use Rattle.model.specs.Lists.{fold, last, maybe}
 use Rattle.model.specs.Sheet.{Sheet, sheet_of}
-use Rattle.model.specs.View.{Leg}
-use Rattle.model.specs.Legs.{EdgeCoverage, PathResult, LegEnd, best, no_path, heap_full}
-use Rattle.model.specs.Decode.{FullPath, no_path_yet, roads_of, segment_of, extended, path_of_leg, Outcome, refused, with_primary, after_leg}
+use Rattle.model.specs.Legs.{EdgeCoverage, PathResult, LegEnd}
+use Rattle.model.specs.Decode.{FullPath, no_path_yet, roads_of, segment_of, extended, path_of_leg, Outcome, with_primary, after_leg}
 use Rattle.model.specs.Decode as decode
-use Rattle.model.specs.Call.{most_entries}
-use Rattle.full_path.specs.Left.{unwritten, coverages_at, cover_all}
-use Rattle.full_path.proofs.Writing.{skip_none}
-use Rattle.full_path.proofs.Appended.{append_numbers}
+use Rattle.full_path.specs.declared.Coverages.{Coverages}
+use Rattle.full_path.specs.declared.Covering.TheVariants.{PerRoad, PerPass}
+use Rattle.full_path.specs.Left.{unwritten, coverages_at, cover_with, cover_all}
+use Rattle.full_path.proofs.Numbers.{append_numbers}
+use Rattle.lines.specs.declared.SegmentInfo.{SegmentInfo}
 use Rattle.lines.specs.declared.WrittenLeg.{WrittenLeg}
-use Rattle.lines.specs.declared.LegWritten.{LegWritten}
-use Rattle.lines.specs.declared.LegWritten.TheVariants as E
 use Rattle.lines.specs.declared.FullPath as code
-use Rattle.lines.specs.declared.LegsEnd.{LegsEnd}
-use Rattle.lines.specs.declared.LegsEnd.TheVariants as D
-use Rattle.lines.specs.declared.Legs.{Legs}
-use Rattle.lines.specs.Legs.{leg_limits, leg_end_from, segment_as, road_numbers, RouteWritten, LegEndWritten, PathStored, LegsOutcome, point_along_line_outcome, legs_of, no_leg_yet, extended_by, advanced, Short}
+use Rattle.lines.specs.Legs.{leg_limits, refusal, segment_as, road_numbers, LegWritten, PathStored, LegsWritten, line_outcome, point_along_line_outcome, no_leg_yet, extended_by}
 use Rattle.lines.proofs.Sequence.{leg_from, from_leg, line_start, line_step, line_end, point_is}
+
+-- ---- nothing before
+
+nothing_before : (ns : List ℕ) → unwritten (last []) ns ≡ ns
+unfolding unwritten last maybe
+nothing_before [] = refl
+nothing_before (x ∷ xs) = refl
+
+one_by_one : (ks cs : List EdgeCoverage) → fold (cover_with PerPass) ks cs ≡ ks ++ cs
+unfolding fold cover_with
+one_by_one ks [] = sym (append-nil ks)
+one_by_one ks (x ∷ cs) = one_by_one (ks ++ x ∷ []) cs ∙ append_snoc ks x cs
+
+per_road : (ks cs : List EdgeCoverage) → fold (cover_with PerRoad) ks cs ≡ fold decode.cover ks cs
+unfolding fold cover_with
+per_road ks [] = refl
+per_road ks (x ∷ cs) = per_road (decode.cover ks x) cs
+
+no_coverages : (t : Sheet) (x : Coverages) → x.count ≡ 0 → coverages_at t x ≡ []
+no_coverages t x none = rw none
 
 -- ---- room
 
@@ -40,232 +50,110 @@ rows_more i w = add-mul i 1 w ∙ omega arith
 rows_fit : (i j w : ℕ) → i ≤ j → i * w ≤ j * w
 rows_fit i j w h = mul-le-mul h (omega arith)
 
--- ---- one leg more
-
 module _ (s : List ℕ) (c : Counts) (slots : ℕ) where
   abbrev t : Sheet
   t = sheet_of s c
 
-  abbrev row : ℕ
-  row = c.n + 1
+  segment_is : (i : ℕ) (r : PathResult) (g : SegmentInfo) → segment_as g ≡ record { length_m = r.total_length; expected_m = (leg_limits (sheet_of s c) i).dnp; start_offset_m = r.start_offset_m; end_offset_m = r.end_offset_m } → segment_as g ≡ segment_of (leg_from s c i) r
+  unfolding segment_of
+  segment_is i r g e = e
 
-  -- ---- few entries
+  -- ---- the one leg of a point along line
 
-  -- a leg writes few roads, and so do all legs
-  pub short_leg : c.n ≤ 1024 → (summed : Bool) (dnp : Float) (n : ℕ) (ids : List ℕ) (ks : List EdgeCoverage) (n0 : ℕ) (so : LegEnd) (ids₁ covered : List ℕ) (coverage : List Float) (e : LegWritten)
-      → LegEndWritten (sheet_of s c) c summed dnp n ids ks n0 so ids₁ covered coverage e → Short e
-  unfolding LegEndWritten Short
-  short_leg few summed dnp n ids ks n0 so ids₁ covered coverage (E.Written w) left = (let g = left.2.few in omega arith)
-  short_leg few summed dnp n ids ks n0 so ids₁ covered coverage E.NoPath left = tt
-  short_leg few summed dnp n ids ks n0 so ids₁ covered coverage E.HeapFull left = tt
+  module _ (two : c.p ≡ 2) (ids : List ℕ) (x : Coverages) (none : x.count ≡ 0) (ids₁ : List ℕ) (y : Coverages) where
+    pub point_written : (w : WrittenLeg) → LegWritten (sheet_of s c) c slots 0 PerPass 0 ids x ids₁ y (Ok w)
+        → LegsWritten (sheet_of s c) c (point_along_line_outcome (sheet_of s c) slots) ids₁ y (Ok record { written = w.written; total_length = w.segment.length_m; first = w.segment; last = w.segment })
+    unfolding after_leg path_of_leg
+    point_written w (r, is, walks) =
+        let segment = segment_is 0 r w.segment walks.segment in (
+          omega arith,
+          (
+            path_of_leg (leg_from s c 0) r,
+            point_is s c slots two ∙ ap (λ (e : LegEnd). after_leg 0 e (λ r. with_primary c.p (path_of_leg (leg_from s c 0) r))) is,
+            record {
+              written = record { roads = ap (λ (n : ℕ). take n ids₁) {x = w.written} {y = 0 + w.written} (omega arith) ∙ walks.roads ∙ nothing_before (road_numbers (roads_of r)); total_length = ap (λ (g : decode.SegmentInfo). g.length_m) walks.segment; first = segment; last = segment };
+              coverages = walks.coverages ∙ ap (λ (ks : List EdgeCoverage). cover_all PerPass ks r.coverages) (no_coverages t x none) ∙ one_by_one [] r.coverages;
+              few_roads = rw two (let few = walks.few in omega arith);
+              few_coverages = rw two (let most = walks.most in omega arith);
+              below = walks.below;
+            },
+          ),
+        )
 
-  pub few_entries : c.p ≤ 16 → c.n ≤ 1024 → most_entries c.p c.n ≤ 20500
-  few_entries p n =
-      let points : c.p + 4 ≤ 20 = omega arith in
-      let nodes : c.n + 1 ≤ 1025 = omega arith in
-      mul-le-mul points nodes
+    pub point_refused : (e : DecodeError) → LegWritten (sheet_of s c) c slots 0 PerPass 0 ids x ids₁ y (Err e) → point_along_line_outcome (sheet_of s c) slots ≡ refusal e
+    point_refused e none = point_is s c slots two ∙ none _
 
-  -- ---- a line, or the one leg of a point along line
+  -- ---- the legs of a line
 
-  -- what is left from leg i on, with the path k before it
-  unfoldable pub from_by : Bool → ℕ → FullPath → Outcome
-  from_by true i k = from_leg s c slots i k
-  from_by false zero k = point_along_line_outcome (sheet_of s c) slots
-  from_by false (suc i) k = with_primary c.p k
+  -- before leg i: the path k of the legs so far, and the definition with it
+  pub record SoFar (i : ℕ) (ids : List ℕ) (y : Coverages) (x : code.FullPath) : Type 0 where
+    pub path : FullPath
+    pub is : from_leg s c slots i path ≡ line_outcome (sheet_of s c) slots
+    pub stored : PathStored (sheet_of s c) c.e (i * (c.n + 1)) path ids y x
 
-  unfoldable pub path_by : Bool → ℕ → FullPath → Leg → PathResult → FullPath
-  path_by true i k leg r = extended i k leg r
-  path_by false i k leg r = path_of_leg leg r
+  pub line_begins : (ids : List ℕ) (y : Coverages) → y.count ≡ 0 → SoFar 0 ids y no_leg_yet
+  line_begins ids y none = record {
+    path = no_path_yet;
+    is = line_start s c slots;
+    stored = record {
+      written = record { roads = refl; total_length = refl; first = refl; last = refl };
+      coverages = no_coverages t y none;
+      few_roads = omega arith;
+      few_coverages = omega arith;
+      below = λ j h. absurd (omega arith);
+    };
+  }
 
-  by_start : (b : Bool) → from_by b 0 no_path_yet ≡ legs_of b (sheet_of s c) slots
-  unfolding from_by
-  by_start true = line_start s c slots
-  by_start false = refl
+  module _ {i : ℕ} {ids : List ℕ} {y : Coverages} {x : code.FullPath} (far : SoFar i ids y x) where
+    module _ (h : i + 1 < c.p) (ids₁ : List ℕ) (z : Coverages) where
+      first_is : (b : Bool) (r : PathResult) (g : SegmentInfo) → segment_as g ≡ segment_of (leg_from s c i) r → segment_as (cond b g x.first) ≡ cond b (segment_of (leg_from s c i) r) far.path.first_segment
+      first_is true r g e = e
+      first_is false r g e = far.stored.written.first
 
-  by_step : (b : Bool) → (b ≡ false → c.p ≡ 2) → (i : ℕ) (k : FullPath) → i + 1 < c.p → from_by b i k ≡ after_leg i (leg_end_from (sheet_of s c) slots i) (λ r. from_by b (i + 1) (path_by b i k (leg_from s c i) r))
-  unfolding from_by path_by
-  by_step true two i k h = line_step s c slots i k h
-  by_step false two zero k h = point_is s c slots (two refl)
-  by_step false two (suc i) k h = absurd (omega (arith, two refl))
+      pub line_goes_on : (w : WrittenLeg) → LegWritten (sheet_of s c) c slots i PerRoad x.written ids y ids₁ z (Ok w) → SoFar (i + 1) ids₁ z (extended_by i x w)
+      unfolding after_leg extended segment_of
+      line_goes_on w (r, is, walks) =
+          let one = rows_more i (c.n + 1) in
+          let path = far.path in
+          let stored = far.stored in
+          let segment = segment_is i r w.segment walks.segment in
+          record {
+            path = extended i path (leg_from s c i) r;
+            is = ap (λ (e : LegEnd). after_leg i e (λ r. from_leg s c slots (i + 1) (extended i path (leg_from s c i) r))) (sym is) ∙ sym (line_step s c slots i path h) ∙ far.is;
+            stored = record {
+              written = record {
+                roads =
+                    walks.roads
+                    ∙ ap (λ (ns : List ℕ). ns ++ unwritten (last ns) (road_numbers (roads_of r))) stored.written.roads
+                    ∙ sym (append_numbers path.roads (roads_of r));
+                total_length = ap (λ (m : Float). m ⊕ w.segment.length_m) stored.written.total_length ∙ ap (λ (g : decode.SegmentInfo). path.total_length ⊕ g.length_m) segment;
+                first = first_is (eqb i 0) r w.segment segment;
+                last = segment;
+              };
+              coverages = walks.coverages ∙ per_road (coverages_at t y) r.coverages ∙ ap (λ (ks : List EdgeCoverage). fold decode.cover ks r.coverages) stored.coverages;
+              few_roads = (let a = stored.few_roads in let b = walks.few in omega arith);
+              few_coverages = (let a = stored.few_coverages in let b = walks.most in omega arith);
+              below = walks.below;
+            };
+          }
 
-  by_end : (b : Bool) → (b ≡ false → c.p ≡ 2) → (i : ℕ) (k : FullPath) → c.p ≤ i + 1 → from_by b i k ≡ with_primary c.p k
-  unfolding from_by
-  by_end true two i k h = line_end s c slots i k h
-  by_end false two zero k h = absurd (omega (arith, two refl))
-  by_end false two (suc i) k h = refl
+      pub line_refused : (e : DecodeError) → LegWritten (sheet_of s c) c slots i PerRoad x.written ids y ids₁ z (Err e) → line_outcome (sheet_of s c) slots ≡ refusal e
+      line_refused e none = sym far.is ∙ line_step s c slots i far.path h ∙ none _
 
-  module _ (summed : Bool) where
-    -- the legs so far, by how they end
-    unfoldable pub SoFar : ℕ → List ℕ → List ℕ → List Float → LegsEnd → code.FullPath → Type 0
-    SoFar i ids covered coverage D.Done x = (k : FullPath) × (from_by summed i k ≡ legs_of summed (sheet_of s c) slots) × PathStored (sheet_of s c) c.e (i * (c.n + 1)) k ids covered coverage x
-    SoFar i ids covered coverage (D.NoPath j) x = (legs_of summed (sheet_of s c) slots ≡ refused 10 j (j + 1)) × (j < c.p)
-    SoFar i ids covered coverage (D.HeapFull j) x = legs_of summed (sheet_of s c) slots ≡ refused 11 j 0
-
-    pub record Going (ids covered : List ℕ) (coverage : List Float) (x : Legs) : Type 0 where
-      pub in_range : x.next ≤ c.p
-      pub two : summed ≡ false → c.p ≡ 2
-      pub running : x.next + 1 < c.p → x.end ≡ D.Done
-      pub so_far : SoFar x.next ids covered coverage x.end x.path
-
-    pub going_start : (summed ≡ false → c.p ≡ 2) → (ids covered : List ℕ) (coverage : List Float) → Going ids covered coverage no_leg_yet
-    unfolding SoFar coverages_at tabulate
-    going_start two ids covered coverage = record {
-      in_range = omega arith;
-      two = two;
-      running = λ h. refl;
-      so_far = (
-        no_path_yet,
-        by_start summed,
-        record {
-          written = record { roads = refl; total_length = refl; first = refl; last = refl };
-          coverages = refl;
-          few_roads = omega arith;
-          few_coverages = omega arith;
-          below = λ j h. absurd (omega arith);
-        },
-      );
-    }
-
-    module _ {ids covered : List ℕ} {coverage : List Float} {x : Legs} (g : Going ids covered coverage x) (h : x.next + 1 < c.p) where
-      -- the path so far
-      pub stored_now : (k : FullPath) × (from_by summed x.next k ≡ legs_of summed (sheet_of s c) slots) × PathStored (sheet_of s c) c.e (x.next * (c.n + 1)) k ids covered coverage x.path
-      unfolding SoFar
-      stored_now = rw (g.running h) at g.so_far
-
-      -- the room for one leg more
-      pub room : (i : ℕ) → i ≤ x.next * (c.n + 1) → i + c.n + 1 ≤ most_entries c.p c.n
-      room i few =
-          let one = rows_more x.next row in
-          let all = rows_fit (x.next + 1) (c.p + 4) row (omega arith) in
-          omega arith
-
-      -- where another leg comes, it is the next one
-      pub next_one : (e : LegWritten) → (advanced summed x c.p e).next + 1 < c.p → (advanced summed x c.p e).next ≡ x.next + 1
-      unfolding advanced
-      next_one (E.Written w) h = refl
-      next_one E.NoPath h = absurd (omega arith)
-      next_one E.HeapFull h = absurd (omega arith)
-
-      pub nearer : (e : LegWritten) → c.p - (advanced summed x c.p e).next < c.p - x.next
-      unfolding advanced
-      nearer (E.Written w) = omega arith
-      nearer E.NoPath = omega arith
-      nearer E.HeapFull = omega arith
-
-      -- the leg's roads stand behind those already written
-      module _ (ids₁ covered₁ : List ℕ) (coverage₁ : List Float) where
-        abbrev k : FullPath
-        k = stored_now.0
-
-        abbrev stands : PathStored (sheet_of s c) c.e (x.next * (c.n + 1)) k ids covered coverage x.path
-        stands = stored_now.2
-
-        next_is : (so : LegEnd) → leg_end_from t slots x.next ≡ so → after_leg x.next so (λ r. from_by summed (x.next + 1) (path_by summed x.next k (leg_from s c x.next) r)) ≡ legs_of summed t slots
-        next_is so is =
-            ap (λ (z : LegEnd). after_leg x.next z (λ r. from_by summed (x.next + 1) (path_by summed x.next k (leg_from s c x.next) r))) (sym is)
-            ∙ sym (by_step summed g.two x.next k h)
-            ∙ stored_now.1
-
-        abbrev WalksSo : Bool → PathResult → WrittenLeg → Type 0
-        WalksSo b r w = RouteWritten (sheet_of s c) c b (leg_limits (sheet_of s c) x.next).dnp x.path.written ids (coverages_at (sheet_of s c) x.path.covered covered coverage) x.path.covered r ids₁ covered₁ coverage₁ w
-
-        module _ (r : PathResult) (w : WrittenLeg) where
-          -- of a line
-          module _ (walks : WalksSo true r w) where
-            segment_is : segment_as w.segment ≡ segment_of (leg_from s c x.next) r
-            unfolding segment_of
-            segment_is = walks.segment
-
-            first_is : (b : Bool) → segment_as (cond b w.segment x.path.first) ≡ cond b (segment_of (leg_from s c x.next) r) k.first_segment
-            first_is true = segment_is
-            first_is false = stands.written.first
-
-            line_stored : PathStored (sheet_of s c) c.e ((x.next + 1) * (c.n + 1)) (extended x.next k (leg_from s c x.next) r) ids₁ covered₁ coverage₁ (extended_by true x.next x.path w)
-            unfolding extended cover_all segment_of
-            line_stored =
-                let one = rows_more x.next row in
-                record {
-                  written = record {
-                    roads =
-                        walks.roads
-                        ∙ ap (λ (l : List ℕ). l ++ unwritten (last l) (road_numbers (roads_of r))) stands.written.roads
-                        ∙ sym (append_numbers k.roads (roads_of r));
-                    total_length = ap (λ (y : Float). y ⊕ w.segment.length_m) stands.written.total_length ∙ ap (λ (y : decode.SegmentInfo). k.total_length ⊕ y.length_m) segment_is;
-                    first = first_is (eqb x.next 0);
-                    last = segment_is;
-                  };
-                  coverages = walks.coverages ∙ ap (λ ks. cover_all true ks r.coverages) stands.coverages;
-                  few_roads = (let a = stands.few_roads in let b = walks.few in omega arith);
-                  few_coverages = (let a = stands.few_coverages in let b = walks.most in omega arith);
-                  below = walks.below;
-                }
-
-          -- of a point along line: nothing is written yet
-          module _ (alone : c.p ≡ 2) (walks : WalksSo false r w) where
-            first_leg : x.next ≡ 0
-            first_leg = omega arith
-
-            nothing_yet : (n : ℕ) → n ≤ x.next * (c.n + 1) → n ≡ 0
-            nothing_yet n few =
-                let none : x.next * (c.n + 1) ≡ 0 = ap (λ (i : ℕ). i * (c.n + 1)) first_leg ∙ zero-mul (c.n + 1) in
-                omega arith
-
-            point_stored : PathStored (sheet_of s c) c.e ((x.next + 1) * (c.n + 1)) (path_of_leg (leg_from s c x.next) r) ids₁ covered₁ coverage₁ (extended_by false x.next x.path w)
-            unfolding path_of_leg cover_all segment_of coverages_at tabulate unwritten last
-            point_stored =
-                let one = rows_more x.next row in
-                let written : x.path.written ≡ 0 = nothing_yet _ stands.few_roads in
-                let covered_none : x.path.covered ≡ 0 = nothing_yet _ stands.few_coverages in
-                record {
-                  written = record {
-                    roads =
-                        walks.roads
-                        ∙ ap (λ (n : ℕ). take n ids ++ unwritten (last (take n ids)) (road_numbers (roads_of r))) written
-                        ∙ sym (skip_none (road_numbers (roads_of r)));
-                    total_length = ap (λ (y : decode.SegmentInfo). y.length_m) walks.segment;
-                    first = ap (λ (b : Bool). segment_as (cond b w.segment x.path.first)) (eq-eqb x.next 0 first_leg) ∙ walks.segment;
-                    last = walks.segment;
-                  };
-                  coverages = walks.coverages ∙ ap (λ (n : ℕ). cover_all false (coverages_at (sheet_of s c) n covered coverage) r.coverages) covered_none;
-                  few_roads = (let a = stands.few_roads in let b = walks.few in omega arith);
-                  few_coverages = (let a = stands.few_coverages in let b = walks.most in omega arith);
-                  below = walks.below;
-                }
-
-          stored_on : (b : Bool) → (b ≡ false → c.p ≡ 2) → WalksSo b r w → PathStored (sheet_of s c) c.e ((x.next + 1) * (c.n + 1)) (path_by b x.next k (leg_from s c x.next) r) ids₁ covered₁ coverage₁ (extended_by b x.next x.path w)
-          unfolding path_by
-          stored_on true two walks = line_stored walks
-          stored_on false two walks = point_stored (two refl) walks
-
-        pub going_on : (e : LegWritten)
-            → LegEndWritten (sheet_of s c) c summed (leg_limits (sheet_of s c) x.next).dnp x.path.written ids (coverages_at (sheet_of s c) x.path.covered covered coverage) x.path.covered (leg_end_from (sheet_of s c) slots x.next) ids₁ covered₁ coverage₁ e
-            → Going ids₁ covered₁ coverage₁ (advanced summed x c.p e)
-        unfolding LegEndWritten SoFar advanced after_leg
-        going_on (E.Written w) left = record {
-          in_range = omega arith;
-          two = g.two;
-          running = λ g. refl;
-          so_far = (path_by summed x.next k (leg_from s c x.next) left.0, next_is (best left.0) left.1, stored_on left.0 w summed g.two left.2);
-        }
-        going_on E.NoPath left = record { in_range = omega arith; two = g.two; running = λ g. absurd (omega arith); so_far = (sym (next_is no_path left), omega arith) }
-        going_on E.HeapFull left = record { in_range = omega arith; two = g.two; running = λ g. absurd (omega arith); so_far = sym (next_is heap_full left) }
-
-    -- ---- the end of the legs
-
-    more_room : (few most : ℕ) → few ≤ most → {k : FullPath} {ids covered : List ℕ} {coverage : List Float} {x : code.FullPath} → PathStored (sheet_of s c) c.e few k ids covered coverage x → PathStored (sheet_of s c) c.e most k ids covered coverage x
-    more_room few most h f = record {
-      written = f.written;
-      coverages = f.coverages;
-      few_roads = (let a = f.few_roads in omega arith);
-      few_coverages = (let a = f.few_coverages in omega arith);
-      below = f.below;
-    }
-
-    pub going_end : {ids covered : List ℕ} {coverage : List Float} {x : Legs} → Going ids covered coverage x → c.p ≤ x.next + 1 → LegsOutcome (sheet_of s c) c (legs_of summed (sheet_of s c) slots) ids covered coverage x.end x.path
-    unfolding SoFar LegsOutcome
-    going_end {ids} {covered} {coverage} {x} g h = go x.end g.so_far
-      where
-        go : (e : LegsEnd) → SoFar x.next ids covered coverage e x.path → LegsOutcome (sheet_of s c) c (legs_of summed (sheet_of s c) slots) ids covered coverage e x.path
-        go D.Done f = (f.0, sym f.1 ∙ by_end summed g.two x.next f.0 h, more_room (x.next * row) (c.p * row) (rows_fit x.next c.p row g.in_range) f.2)
-        go (D.NoPath j) f = f
-        go (D.HeapFull j) f = f
+    pub line_ends : 0 < c.p → i ≤ c.p → c.p ≤ i + 1 → LegsWritten (sheet_of s c) c (line_outcome (sheet_of s c) slots) ids y (Ok x)
+    line_ends some h l =
+        let all = rows_fit i c.p (c.n + 1) h in
+        let stored = far.stored in (
+          some,
+          (
+            far.path,
+            sym far.is ∙ line_end s c slots i far.path l,
+            record {
+              written = stored.written;
+              coverages = stored.coverages;
+              few_roads = (let a = stored.few_roads in omega arith);
+              few_coverages = (let a = stored.few_coverages in omega arith);
+              below = stored.below;
+            },
+          ),
+        )

@@ -1,4 +1,5 @@
-pub mod Sequence
-pub mod Owned
-pub mod Leaving
+pub mod Ends
 pub mod Going
+pub mod Leaving
+pub mod Owned
+pub mod Sequence

@@ -1,49 +1,92 @@
--- The roads of a leg's route are the sheet's own, since the definition's are.
-use Prim.Native.Nat.{ℕ, zero, suc, ◌+◌, ◌-◌, ◌<◌}
-use mathlib.Core.Path.{◌≡◌, refl, sym, ap, ◌∙◌, subst}
-use mathlib.Core.Logic.{inl, inr}
-use mathlib.Core.Bool.{true}
+-- A leg's route: what its search finds is what the marks lead back over, and its roads are the sheet's own, since the definition's are.
+use Rattle.std.proofs.Common.{◌≡◌, ℕ, zero, suc, ◌+◌, ◌-◌, ◌<◌, List, [], ◌∷◌, ◌++◌, map, get_or, take, Option, Some, None, Result, Ok, refl, sym, ap, ◌∙◌, subst, inl, inr, arith, zero-add}
+use Rattle.std.proofs.lemmas.List.{get_or_at, take-take}
+use native.Mathlib.Nat.{le_refl}
+use Rattle.std.proofs.Math.ListN.{get_or-append}
 use mathlib.Core.List.Memᴰ
-use mathlib.Core.List.{List, [], ◌∷◌, ◌++◌, map}
-use native.Mathlib.Nat.{zero-add}
-use native.Mathlib.Omega.{arith}
-use lib.ListN.{take, get_or, get_or-append}
-use lib.Seq.{take_all, get_or_at}
 use Rattle.model.specs.declared.Counts.{Counts}
 use Rattle.model.specs.declared.Road.{Road}
+use Rattle.model.specs.declared.Limits.{Limits}
+use Rattle.model.specs.declared.Point.{Point}
+use Rattle.model.specs.Layout.{points_bytes}
 use Rattle.model.specs.Lists.{In, tabulate}
 use Rattle.model.specs.Judge.{WellFormed}
-use Rattle.model.specs.Sheet.{Sheet, sheet_of, road_at}
-use Rattle.model.specs.View.{view}
-use Rattle.model.specs.Legs.{MiddleSearch, best, terminal, whole}
+use Rattle.model.specs.Sheet.{MeasuredPoint, Sheet, sheet_of, road_at, point_of, measured_point}
+use Rattle.model.specs.View.{limits_of, view}
+use Rattle.model.specs.Candidates.{Candidate}
+use Rattle.model.specs.Legs.{Pair, pairs, leg_pairs, MiddleSearch, best, whole, try_same_edge_solution, else_pairs, find_best_path}
+use Rattle.model.specs.Legs as model
 use Rattle.model.proofs.Members.{here, tab_in}
-use Rattle.model.proofs.Parsed.{road_count}
+use Rattle.model.proofs.Parsed.{road_count, measured_point_is}
+use Rattle.bounds.specs.Amounts.{Amount}
+use Rattle.bounds.proofs.AmountLaws.{finite_amount}
 use Rattle.bounds.proofs.FormedProof.{well_formed_formed}
 use Rattle.bounds.proofs.PathLaws.{InSheet, sheet_roads}
 use Rattle.bounds.proofs.PathRoads.{RouteRoads, leg_roads}
 use Rattle.bounds.proofs.EndBound.{own_road}
 use Rattle.bounds.proofs.Legs.{Finds}
 use Rattle.bounds.proofs.Choices.{below_or_not}
-use Rattle.candidates.specs.Found.{candidates_at}
+use Rattle.candidates.specs.Found.{no_point, candidates_at, tried_at}
 use Rattle.candidates.specs.Points.{candidates_of}
 use Rattle.candidates.proofs.Rules.{candidates_are}
 use Rattle.rules.specs.declared.Middle.{Middle}
+use Rattle.rules.specs.declared.PathResult.{PathResult}
 use Rattle.rules.specs.declared.TerminalEdge.{TerminalEdge}
 use Rattle.rules.specs.Code.{terminal_of, with_middle, middle_in}
 use Rattle.search.specs.Areas.{back_way, LeadsBack}
-use Rattle.search.specs.Answers.{RoadNumbers, roads_in}
+use Rattle.search.specs.Answers.{RoadNumbers, roads_in, WayBack}
 use Rattle.search.proofs.Walks.{back_size}
-use Rattle.legs.specs.declared.LegEnd as legs
-use Rattle.legs.specs.declared.LegEnd.TheVariants as S
-use Rattle.legs.specs.Found.{middle_search_at, leg_end_of, winner_of, Led}
-use Rattle.full_path.specs.Left.{path_of, middle_numbers}
-use Rattle.lines.specs.Legs.{leg_end_from, leg_end_by, KnownAs}
+use Rattle.legs.specs.declared.LegError.{LegError}
+use Rattle.legs.specs.Found.{middle_search_at, leg_end_of}
+use Rattle.full_path.specs.Left.{path_of, middle_numbers, Walkable, Own, Known}
+use Rattle.lines.specs.Legs.{leg_limits, leg_end_from}
 use Rattle.lines.proofs.Sequence.{leg_from, legs_are}
 
--- a terminal road that is kept stands in the coverages
-kept_in : (p : TerminalEdge) → p.kept ≡ true → In (record { road = p.road; coverage_m = p.coverage_m }) (terminal_of p)
-unfolding terminal
-kept_in p k = rw k here
+-- ---- what a leg finds
+
+-- the point of the leg's start
+pub limits_are : (s : List ℕ) (c : Counts) (i : ℕ) → i < c.p → (p : Point) → p ≡ point_of (points_bytes s c) i → limits_of (sheet_of s c).settings p ≡ leg_limits (sheet_of s c) i
+unfolding measured_point
+limits_are s c i h p is = ap (limits_of (sheet_of s c).settings) (is ∙ ap (λ (x : MeasuredPoint). x.point) (sym (measured_point_is s c i h no_point)))
+
+-- its penalties are those of the settings, which are amounts
+pub priced : (s : List ℕ) (c : Counts) → WellFormed s c → (i : ℕ) {b : Limits} → b ≡ leg_limits (sheet_of s c) i → Amount b.constraints.slip_road_cost_penalty × Amount b.constraints.access_road_cost_penalty
+unfolding limits_of
+priced s c w i e = let formed = well_formed_formed s c w in subst (λ (x : Limits). Amount x.constraints.slip_road_cost_penalty × Amount x.constraints.access_road_cost_penalty) (sym e) (finite_amount _ formed.slip, finite_amount _ formed.access)
+
+-- of the first ten of two lists a leg tries the same pairs
+same_pairs : (xs ys : List Candidate) → leg_pairs (take 10 xs) (take 10 ys) ≡ leg_pairs xs ys
+same_pairs xs ys = rw (take-take 10 10 xs (le_refl 10), take-take 10 10 ys (le_refl 10))
+
+-- the marks lead back over the middle of a route
+abbrev pub LedBack : Sheet → Counts → MiddleSearch → List ℕ → Middle → Type 0
+LedBack t c search came m = 0 < m.count → WayBack t c m.goal came m.count (middle_in search m)
+
+-- so its roads are what the search finds
+middle_same : (t : Sheet) (c : Counts) (search : MiddleSearch) (came : List ℕ) (m : Middle) → LedBack t c search came m → map (road_at t) (middle_numbers t came m) ≡ middle_in search m
+unfolding middle_in back_way
+middle_same t c search came m led = go m.count refl led
+  where
+    go : (k : ℕ) → m.count ≡ k → LedBack t c search came m → map (road_at t) (middle_numbers t came m) ≡ take m.count (roads_in (search m.start m.goal m.bound))
+    go zero e h = rw e
+    go (suc k) e h = (h (omega arith)).roads
+
+module _ (t : Sheet) (slots i : ℕ) {b : Limits} {xs ys : List Candidate} (x : Result PathResult LegError) (limits : b ≡ leg_limits t i) (start : xs ≡ tried_at t i) (end : ys ≡ tried_at t (i + 1)) (means : leg_end_of (middle_search_at t slots b) x ≡ find_best_path b (middle_search_at t slots b) xs ys) where
+  -- with its limits and its candidates at hand
+  pub leg_end_is : leg_end_of (middle_search_at t slots b) x ≡ leg_end_from t slots i
+  unfolding leg_end_from find_best_path
+  leg_end_is =
+      let search = middle_search_at t slots b in
+      means
+      ∙ ap (λ (l : List Candidate). find_best_path b search l ys) start ∙ ap (find_best_path b search (tried_at t i)) end
+      ∙ ap (λ (ps : List Pair). else_pairs b search ps (try_same_edge_solution b ps)) (same_pairs (candidates_at t i) (candidates_at t (i + 1)))
+      ∙ rw limits
+
+  -- the marks lead back over what its search finds
+  pub route_is : (c : Counts) (came : List ℕ) (r : PathResult) → x ≡ Ok r → LedBack t c (middle_search_at t slots b) came r.middle → best (path_of t r (middle_numbers t came r.middle)) ≡ leg_end_from t slots i
+  route_is c came r found led = ap (λ (l : List Road). best (with_middle r l)) (middle_same t c (middle_search_at t slots b) came r.middle led) ∙ ap (leg_end_of (middle_search_at t slots b)) (sym found) ∙ leg_end_is
+
+-- ---- its roads
 
 -- the roads back are numbers of the e roads
 back_numbers : (roads : ℕ → Road) (e : ℕ) (came : List ℕ) (k v : ℕ) → LeadsBack roads e came k v → RoadNumbers e k (back_way roads came k v)
@@ -79,48 +122,30 @@ module _ (s : List ℕ) (c : Counts) (w : WellFormed s c) (slots i : ℕ) (h : i
       let o = own_road t (well_formed_formed s c w) r m in
       (rw (road_count s c) at o.0, o.1)
 
-  -- the roads that the marks lead back over are those of the search
-  module _ (search : MiddleSearch) (came : List ℕ) where
-    middle_same : (m : Middle) → Led (sheet_of s c) c search came m → map (road_at (sheet_of s c)) (take m.count (middle_numbers (sheet_of s c) came m)) ≡ middle_in search m
-    unfolding middle_in back_way
-    middle_same m led = go m.count refl led
-      where
-        go : (k : ℕ) → m.count ≡ k → Led (sheet_of s c) c search came m → map (road_at (sheet_of s c)) (take m.count (middle_numbers (sheet_of s c) came m)) ≡ take m.count (roads_in (search m.start m.goal m.bound))
-        go zero e h = rw e
-        go (suc k) e h =
-            ap (map (road_at t)) (take_all m.count (middle_numbers t came m) (omega (arith, back_size (road_at t) came m.count m.goal)))
-            ∙ (h (omega arith)).roads
+  own_terminal : (p : Option TerminalEdge) → ((x : model.EdgeCoverage) → In x (terminal_of p) → InSheet t x.road) → Own (sheet_of s c) c.e p
+  own_terminal None all = tt
+  own_terminal (Some p) all = owned p.road (all _ here)
 
-    -- what the leg found is what it found by them
-    pub leg_end_same : (x : legs.LegEnd) → Led (sheet_of s c) c search came (winner_of x) → leg_end_by (sheet_of s c) came x ≡ leg_end_of search x
-    unfolding leg_end_by leg_end_of winner_of
-    leg_end_same (S.Best r) led = ap (λ (l : List Road). best (with_middle r l)) (middle_same r.middle led)
-    leg_end_same S.NoPath led = refl
-    leg_end_same S.HeapFull led = refl
-
-  pub leg_known : (x : legs.LegEnd) (search : MiddleSearch) (came : List ℕ) → 0 < c.n → leg_end_by (sheet_of s c) came x ≡ leg_end_from (sheet_of s c) slots i → Led (sheet_of s c) c search came (winner_of x) → KnownAs (sheet_of s c) c x came
-  unfolding leg_end_by winner_of KnownAs
-  leg_known (S.Best r) search came some is led =
-      let m = r.middle in
-      let area = middle_numbers t came m in
-      let size = back_size (road_at t) came m.count m.goal in
-      let roads : RouteRoads (InSheet t) (path_of t r area) = subst (Finds (RouteRoads (InSheet t))) (sym is) leg_end_roads in (
+  -- a route that the leg finds
+  pub route_known : (r : PathResult) (search : MiddleSearch) (came : List ℕ) → 0 < c.n → best (path_of (sheet_of s c) r (middle_numbers (sheet_of s c) came r.middle)) ≡ leg_end_from (sheet_of s c) slots i → LedBack (sheet_of s c) c search came r.middle
+      → Known (sheet_of s c) c r (middle_numbers (sheet_of s c) came r.middle) × Walkable (sheet_of s c) c came r.middle
+  route_known r search came some is led =
+      let ks = middle_numbers t came r.middle in
+      let size = back_size (road_at t) came r.middle.count r.middle.goal in
+      let roads : RouteRoads (InSheet t) (path_of t r ks) = subst (Finds (RouteRoads (InSheet t))) (sym is) leg_end_roads in (
         record {
-          few = few_roads m.count refl led;
-          room = omega (arith, size);
-          numbers = numbers_back m.count refl led;
-          head = λ k. owned r.head.road (roads _ (Memᴰ.append_left (terminal_of r.tail) (Memᴰ.append_left (map whole (map (road_at t) (take m.count area))) (kept_in r.head k))));
-          tail = λ k. owned r.tail.road (roads _ (Memᴰ.append_right (terminal_of r.head ++ map whole (map (road_at t) (take m.count area))) (kept_in r.tail k)));
+          few = rw size (few_roads r.middle.count refl led);
+          numbers = rw size (numbers_back r.middle.count refl led);
+          head = own_terminal r.head (λ x m. roads _ (Memᴰ.append_left (terminal_of r.tail) (Memᴰ.append_left (map whole (map (road_at t) ks)) m)));
+          tail = own_terminal r.tail (λ x m. roads _ (Memᴰ.append_right (terminal_of r.head ++ map whole (map (road_at t) ks)) m));
         },
         λ one. ((led one).inside, (led one).size, (led one).leads),
       )
     where
-      few_roads : (k : ℕ) → r.middle.count ≡ k → Led (sheet_of s c) c search came r.middle → r.middle.count < c.n
+      few_roads : (k : ℕ) → r.middle.count ≡ k → LedBack (sheet_of s c) c search came r.middle → r.middle.count < c.n
       few_roads zero e h = omega arith
       few_roads (suc k) e h = (h (omega arith)).few
 
-      numbers_back : (k : ℕ) → r.middle.count ≡ k → Led (sheet_of s c) c search came r.middle → RoadNumbers c.e r.middle.count (middle_numbers (sheet_of s c) came r.middle)
+      numbers_back : (k : ℕ) → r.middle.count ≡ k → LedBack (sheet_of s c) c search came r.middle → RoadNumbers c.e r.middle.count (middle_numbers (sheet_of s c) came r.middle)
       numbers_back zero e h = λ j l. absurd (omega arith)
       numbers_back (suc k) e h = back_numbers (road_at t) c.e came r.middle.count r.middle.goal (h (omega arith)).leads
-  leg_known S.NoPath search came some is led = tt
-  leg_known S.HeapFull search came some is led = tt

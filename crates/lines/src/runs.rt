@@ -1,51 +1,95 @@
 // The legs of a reference one after the other.
-ghost use Rattle.std.specs.Prelude.{◌≡◌, false, ◌+◌, ◌<◌};
-ghost use Rattle.model.specs.Judge.{WellFormed};
-ghost use Rattle.model.specs.Sheet.{sheet_of};
-ghost use Rattle.search.specs.Areas.{SearchRoom, ListRoom};
-ghost use Rattle.lines.specs.Legs.{legs_of, LegsOutcome};
+ghost use Rattle.std.specs.Prelude.{◌≡◌, ◌+◌, ◌≤◌, ◌<◌};
+ghost use Rattle.sheet.specs.Contents.{contents};
+ghost use Rattle.search.specs.Areas.{ListRoom};
+ghost use Rattle.full_path.specs.Left.{SameAreas};
+ghost use Rattle.lines.specs.Legs.{line_outcome, point_along_line_outcome, extended_by, LegsWritten};
 
-use crate::{Legs, leg, steps};
+use crate::{FullPath, WrittenLeg, leg};
 use candidates::find;
-use model::{Counts, Settings};
+use full_path::{Coverages, Covering};
+use model::error::DecodeError;
+use search::areas::SearchAreas;
+use sheet::Sheet;
 
-// decode_line, where lengths and coverages are summed, and decode_point_along_line, whose one leg is not. Each leg writes behind the roads already there; the candidates of its end are those of the next leg's start.
-pub fn walk_legs(
-    s: &[u8],
-    c: Counts,
-    set: Settings,
-    summed: bool,
-    slots: usize,
-    labels: &mut [f64],
-    came_from: &mut [usize],
-    entries: &mut [f64],
-    links: &mut [usize],
-    covered: &mut [usize],
-    coverage: &mut [f64],
-    ids: &mut [u64],
-) -> Legs
-    requires well_formed { WellFormed s.now c × (set ≡ (sheet_of s.now c).settings) × (0 < c.n) × (0 < c.p) × (summed ≡ false → c.p ≡ 2) }
-    requires list_room { ListRoom c covered.old coverage.old ids.old }
-    requires search_room { SearchRoom c.n slots labels.old came_from.old entries.old links.old }
-    ensures { LegsOutcome (sheet_of s.now c) c (legs_of summed (sheet_of s.now c) slots) ids.new covered.new coverage.new result.end result.path }
+// The path of a line after leg i.
+fn extended(path: FullPath, i: usize, leg: WrittenLeg) -> FullPath
+    requires { path.written + leg.written ≤ usize.MAX }
+    ensures { result ≡ extended_by i path leg }
 {
-    let points = c.p;
-    let mut run = steps::begin();
-    let mut starts = find::find_candidates(s, c, set, 0);
-    while run.next + 1 < points {
-        let at = run.path.written;
-        let n0 = run.path.covered;
-        let to = run.next + 1;
-        let ends = find::find_candidates(s, c, set, to);
-        let b = leg::leg_limits(s, c, set, run.next);
-        let found = legs::find_best_path(
-            s, c, b, starts, ends, slots, labels, came_from, entries, links,
-        );
-        let end = leg::leave(
-            s, c, summed, b.dnp, found, came_from, n0, covered, coverage, at, ids,
-        );
-        starts = ends;
-        run = steps::advance(summed, run, points, end);
+    let segment = leg.segment;
+    FullPath {
+        written: path.written + leg.written,
+        total_length: path.total_length + segment.length_m,
+        first: if i == 0 { segment } else { path.first },
+        last: segment,
     }
-    run
+}
+
+// decode_line. Each leg writes behind the roads already there; the candidates of its end are those of the next leg's start. Lengths are summed, and coverages per road.
+pub fn decode_line(
+    sheet: &Sheet<'_>,
+    areas: &mut SearchAreas<'_>,
+    coverages: &mut Coverages<'_>,
+    ids: &mut [u64],
+) -> Result<FullPath, DecodeError>
+    requires points { (0 < sheet.now.counts.n) × (0 < sheet.now.counts.p) }
+    requires list_room { (coverages.old.count ≡ 0) × ListRoom sheet.now.counts coverages.old.roads.now coverages.old.metres.now ids.old }
+    requires search_room { areas.old.nodes ≡ sheet.now.counts.n }
+    ensures same_areas { SameAreas coverages.old coverages.new }
+    ensures written { LegsWritten (contents sheet.now) sheet.now.counts (line_outcome (contents sheet.now) areas.old.slots) ids.new coverages.new result }
+{
+    let mut path = FullPath::default();
+    let mut starts = find::find_candidates(sheet, 0);
+    for i in 0..sheet.counts.p - 1 {
+        let ends = find::find_candidates(sheet, i + 1);
+        let leg = leg::walk_leg(
+            sheet,
+            i,
+            starts.as_slice(),
+            ends.as_slice(),
+            areas,
+            Covering::PerRoad,
+            coverages,
+            path.written,
+            ids,
+        )?;
+        path = extended(path, i, leg);
+        starts = ends;
+    }
+    Ok(path)
+}
+
+// decode_point_along_line: one leg, whose length is not added to 0 and whose coverages are not summed.
+pub fn decode_point_along_line(
+    sheet: &Sheet<'_>,
+    areas: &mut SearchAreas<'_>,
+    coverages: &mut Coverages<'_>,
+    ids: &mut [u64],
+) -> Result<FullPath, DecodeError>
+    requires points { (0 < sheet.now.counts.n) × (sheet.now.counts.p ≡ 2) }
+    requires list_room { (coverages.old.count ≡ 0) × ListRoom sheet.now.counts coverages.old.roads.now coverages.old.metres.now ids.old }
+    requires search_room { areas.old.nodes ≡ sheet.now.counts.n }
+    ensures same_areas { SameAreas coverages.old coverages.new }
+    ensures written { LegsWritten (contents sheet.now) sheet.now.counts (point_along_line_outcome (contents sheet.now) areas.old.slots) ids.new coverages.new result }
+{
+    let starts = find::find_candidates(sheet, 0);
+    let ends = find::find_candidates(sheet, 1);
+    let leg = leg::walk_leg(
+        sheet,
+        0,
+        starts.as_slice(),
+        ends.as_slice(),
+        areas,
+        Covering::PerPass,
+        coverages,
+        0,
+        ids,
+    )?;
+    Ok(FullPath {
+        written: leg.written,
+        total_length: leg.segment.length_m,
+        first: leg.segment,
+        last: leg.segment,
+    })
 }

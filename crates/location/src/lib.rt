@@ -1,97 +1,63 @@
-// One reference: its kind, its points and its legs, up to the walks at the ends.
+// One reference: its kind, its points and its legs, up to the walks at its ends.
 #![tactic(auto)]
 
-ghost use Rattle.std.specs.Prelude.{List, ℕ, ◌<◌, Float};
-ghost use Rattle.model.specs.declared.Counts.{Counts};
-ghost use Rattle.model.specs.Judge.{WellFormed};
-ghost use Rattle.model.specs.Sheet.{Sheet, sheet_of};
+ghost use Rattle.std.specs.Prelude.{◌≡◌};
+ghost use Rattle.model.specs.Kinds.{kind_number};
 ghost use Rattle.model.specs.View.{view};
 ghost use Rattle.model.specs.Search.{bounded_astar};
 ghost use Rattle.model.specs.Decode.{outcome};
-ghost use Rattle.model.specs.Decode as decode;
-ghost use Rattle.search.specs.Areas.{SearchRoom, ListRoom};
-ghost use Rattle.lines.specs.Legs.{LegsOutcome};
-ghost use Rattle.location.specs.Reference.{AdmissionIs, LegInRange, ReferenceOutcome};
+ghost use Rattle.sheet.specs.Contents.{contents};
+ghost use Rattle.search.specs.Areas.{ListRoom};
+ghost use Rattle.full_path.specs.Left.{SameAreas};
+ghost use Rattle.lines.specs.Legs.{LegsWritten};
+ghost use Rattle.location.specs.Reference.{PointsAdmitted};
 
 use candidates::closest;
-use candidates::closest::Points;
-use lines::{FullPath, Legs, LegsEnd, runs};
-use model::{Counts, POINT_ALONG_LINE};
-use sheet::points;
+use full_path::Coverages;
+use lines::{FullPath, runs};
+use model::error::DecodeError;
+use model::kind::Kind;
+use search::areas::SearchAreas;
+use sheet::Sheet;
 
-// How a reference ends before the walks at its ends: refused with its number, A and B, or with a path.
-#[derive(Clone, Copy)]
-pub enum Outcome {
-    Refused(usize, usize, usize),
-    Legs(FullPath),
-}
-
-// What comes before the legs: a refusal's number and A, or the legs, which are summed for a line.
-#[derive(Clone, Copy)]
-pub enum Admission {
-    Refused(usize, usize),
-    Legs(bool),
-}
-
-// Refusals 7 to 9, in the order of the table.
-pub fn admit(s: &[u8], c: Counts) -> Admission
-    requires { WellFormed s.now c }
-    ensures { AdmissionIs (sheet_of s.now c) c result }
+// The kind of reference.
+fn kind(sheet: &Sheet<'_>) -> Kind
+    ensures { kind_number result ≡ sheet.now.counts.kind }
 {
-    if POINT_ALONG_LINE < c.kind {
-        return Admission::Refused(7, c.kind);
-    }
-    if c.p == 0 {
-        return Admission::Refused(8, 0);
-    }
-    let found = closest::require_close_candidate(s, c);
-    match found {
-        Points::Fine => Admission::Legs(c.kind != POINT_ALONG_LINE),
-        Points::NoCandidate(i) => Admission::Refused(9, i),
-    }
+    Kind::try_from(sheet.counts.kind).unwrap()
 }
 
-// How a reference ends, by how its legs end.
-fn outcome_of(run: Legs) -> Outcome
-    requires { LegInRange run.end }
-    ensures { (t : Sheet) (c : Counts) (o : decode.Outcome) (ids covered : List ℕ) (coverage : List Float) → 0 < c.p → LegsOutcome t c o ids covered coverage run.end run.path → ReferenceOutcome t c o ids covered coverage result }
+// Refusals 8 and 9: there are points, each has a candidate, and one of these is near enough.
+fn require_points(sheet: &Sheet<'_>) -> Result<(), DecodeError>
+    ensures { PointsAdmitted (contents sheet.now) sheet.now.counts result }
 {
-    let end = run.end;
-    let path = run.path;
-    match end {
-        LegsEnd::Done => Outcome::Legs(path),
-        LegsEnd::NoPath(i) => Outcome::Refused(10, i, i + 1),
-        LegsEnd::HeapFull(i) => Outcome::Refused(11, i, 0),
+    if sheet.counts.p == 0 {
+        return Err(DecodeError::NoPoints);
     }
+    closest::require_close_candidate(sheet)
 }
 
-// A reference up to the walks at its ends: its path's road numbers in the front of `ids`, its coverages in the coverage areas.
+// A reference up to the walks at its ends: its path's road numbers in the front of `ids`, its coverages in the lent areas.
 pub fn decode_legs(
-    s: &[u8],
-    c: Counts,
-    slots: usize,
-    labels: &mut [f64],
-    came_from: &mut [usize],
-    entries: &mut [f64],
-    links: &mut [usize],
-    covered: &mut [usize],
-    coverage: &mut [f64],
+    sheet: &Sheet<'_>,
+    areas: &mut SearchAreas<'_>,
+    coverages: &mut Coverages<'_>,
     ids: &mut [u64],
-) -> Outcome
-    requires well_formed { WellFormed s.now c }
-    requires list_room { ListRoom c covered.old coverage.old ids.old }
-    requires search_room { SearchRoom c.n slots labels.old came_from.old entries.old links.old }
-    ensures { ReferenceOutcome (sheet_of s.now c) c (outcome (view (sheet_of s.now c)) (bounded_astar slots)) ids.new covered.new coverage.new result }
+) -> Result<FullPath, DecodeError>
+    requires list_room { (coverages.old.count ≡ 0) × ListRoom sheet.now.counts coverages.old.roads.now coverages.old.metres.now ids.old }
+    requires search_room { areas.old.nodes ≡ sheet.now.counts.n }
+    ensures same_areas { SameAreas coverages.old coverages.new }
+    ensures written { LegsWritten (contents sheet.now) sheet.now.counts (outcome (view (contents sheet.now)) (bounded_astar areas.old.slots)) ids.new coverages.new result }
 {
-    let set = points::settings(s, c);
-    let admission = admit(s, c);
-    match admission {
-        Admission::Refused(number, place) => Outcome::Refused(number, place, 0),
-        Admission::Legs(summed) => {
-            let run = runs::walk_legs(
-                s, c, set, summed, slots, labels, came_from, entries, links, covered, coverage, ids,
-            );
-            outcome_of(run)
+    match kind(sheet) {
+        Kind::Line => {
+            require_points(sheet)?;
+            runs::decode_line(sheet, areas, coverages, ids)
         }
+        Kind::PointAlongLine => {
+            require_points(sheet)?;
+            runs::decode_point_along_line(sheet, areas, coverages, ids)
+        }
+        kind => Err(DecodeError::UnsupportedType { kind }),
     }
 }

@@ -9,50 +9,49 @@ use lib.ListN.{length, get_or, get_or-append}
 use lib.Dec.{eqb}
 use borrow.Author.Tests.{ltb-true, leb-true}
 use Rattle.model.specs.declared.Counts.{Counts}
-use Rattle.model.specs.declared.Verdict.{Verdict}
-use Rattle.model.specs.declared.Verdict.TheVariants.{Good, Bad}
+use Rattle.std.specs.Prelude.{Ok, Err}
 use Rattle.model.specs.Bytes.{u8_at, u16_at, u32_at, u64_at}
 use Rattle.model.specs.Layout.{settings_at, points_at, roads_at, numbers_at, rows_at, distances_at, goals_at, goal_width, most_measured}
-use Rattle.model.specs.Table.{Field, need, ◌then◌, check, check_then, records, first_bad, first_bad_after, fields_alike, f64, measured, most_f64, most_bearing}
+use Rattle.model.specs.Table.{Verdict, Field, need, ◌then◌, check, check_then, records, first_bad, first_bad_after, fields_alike, f64, measured, most_f64, most_bearing}
 use Rattle.model.specs.Judge.{settings_table, point_table, road_table, number_table, row_table, distance_table, goal_table, fields_good, source_of, entry_of, row_count, row_road, goal_node, Sound}
 
 -- ---- verdicts
 
-pub then_first : (u v : Verdict) → (u then v) ≡ Good → u ≡ Good
+pub then_first : (u v : Verdict) → (u then v) ≡ Ok tt → u ≡ Ok tt
 unfolding ◌then◌
-then_first Good v e = refl
-then_first (Bad a) v e = e
+then_first (Ok _) v e = refl
+then_first (Err a) v e = e
 
-pub then_rest : (u v : Verdict) → (u then v) ≡ Good → v ≡ Good
+pub then_rest : (u v : Verdict) → (u then v) ≡ Ok tt → v ≡ Ok tt
 unfolding ◌then◌
-then_rest Good v e = e
-then_rest (Bad a) v e = cc
+then_rest (Ok _) v e = e
+then_rest (Err a) v e = cc
 
-pub need_good : (b : Bool) (a : ℕ) (v : Verdict) → need b a v ≡ Good → b ≡ true
+pub need_good : (b : Bool) (a : ℕ) (v : Verdict) → need b a v ≡ Ok tt → b ≡ true
 unfolding need
 need_good true a v e = refl
 need_good false a v e = cc
 
-pub need_rest : (b : Bool) (a : ℕ) (v : Verdict) → need b a v ≡ Good → v ≡ Good
+pub need_rest : (b : Bool) (a : ℕ) (v : Verdict) → need b a v ≡ Ok tt → v ≡ Ok tt
 unfolding need
 need_rest true a v e = e
 need_rest false a v e = cc
 
 -- each of a good row of verdicts
-first_bad_first : (v : Verdict) (vs : List Verdict) → first_bad_after v vs ≡ Good → v ≡ Good
+first_bad_first : (v : Verdict) (vs : List Verdict) → first_bad_after v vs ≡ Ok tt → v ≡ Ok tt
 unfolding first_bad_after
 first_bad_first v [] e = e
 first_bad_first v (u ∷ us) e = then_first v u (first_bad_first (v then u) us e)
 
-first_bad_after_at : (v : Verdict) (vs : List Verdict) → first_bad_after v vs ≡ Good → (i : ℕ) → get_or vs i Good ≡ Good
+first_bad_after_at : (v : Verdict) (vs : List Verdict) → first_bad_after v vs ≡ Ok tt → (i : ℕ) → get_or vs i (Ok tt) ≡ Ok tt
 unfolding first_bad_after
 first_bad_after_at v [] e i = refl
 first_bad_after_at v (u ∷ us) e zero = then_rest v u (first_bad_first (v then u) us e)
 first_bad_after_at v (u ∷ us) e (suc i) = first_bad_after_at (v then u) us e i
 
-pub first_bad_at : (vs : List Verdict) → first_bad vs ≡ Good → (i : ℕ) → get_or vs i Good ≡ Good
+pub first_bad_at : (vs : List Verdict) → first_bad vs ≡ Ok tt → (i : ℕ) → get_or vs i (Ok tt) ≡ Ok tt
 unfolding first_bad
-first_bad_at vs e i = first_bad_after_at Good vs e i
+first_bad_at vs e i = first_bad_after_at (Ok tt) vs e i
 
 -- ---- records and their fields
 
@@ -61,14 +60,14 @@ abbrev pub any_field : Field
 any_field = record { off = 0; good = λ s at. true }
 
 -- each field of a good record
-pub field_good : (s : List ℕ) (at : ℕ) (fs : List Field) → check s at fs ≡ Good → (i : ℕ) → (get_or fs i any_field).good s at ≡ true
+pub field_good : (s : List ℕ) (at : ℕ) (fs : List Field) → check s at fs ≡ Ok tt → (i : ℕ) → (get_or fs i any_field).good s at ≡ true
 unfolding check_then
 field_good s at [] e i = refl
 field_good s at (f ∷ fs) e zero = need_good (f.good s at) _ _ e
 field_good s at (f ∷ fs) e (suc i) = field_good s at fs (need_rest (f.good s at) _ _ e) i
 
 -- each record of a good run
-pub record_good : (s : List ℕ) (w : ℕ) (fs : List Field) (k at : ℕ) → records s w fs k at ≡ Good → (i : ℕ) → i < k → check s (at + i * w) fs ≡ Good
+pub record_good : (s : List ℕ) (w : ℕ) (fs : List Field) (k at : ℕ) → records s w fs k at ≡ Ok tt → (i : ℕ) → i < k → check s (at + i * w) fs ≡ Ok tt
 unfolding records
 record_good s w fs zero at e i h = absurd (not-suc-le-zero h)
 record_good s w fs (suc k) at e zero h = rw (zero-mul, add-zero) (then_first (check s at fs) _ e)
@@ -77,7 +76,7 @@ record_good s w fs (suc k) at e (suc i) h =
     rw there at (record_good s w fs k (at + w) (then_rest (check s at fs) _ e) i (le_of_suc-le-suc h))
 
 -- each field of each record of a good run
-pub records_field : (s : List ℕ) (w : ℕ) (fs : List Field) (k at : ℕ) → records s w fs k at ≡ Good → (r : ℕ) → r < k → (i : ℕ) → (get_or fs i any_field).good s (at + r * w) ≡ true
+pub records_field : (s : List ℕ) (w : ℕ) (fs : List Field) (k at : ℕ) → records s w fs k at ≡ Ok tt → (r : ℕ) → r < k → (i : ℕ) → (get_or fs i any_field).good s (at + r * w) ≡ true
 records_field s w fs k at e r h i = field_good s (at + r * w) fs (record_good s w fs k at e r h) i
 
 -- field i of a run of fields alike, at a table's end and within it

@@ -1,20 +1,16 @@
 -- A loop that writes a list from the front: after i stores its first i entries are p, and behind them stands the old list.
-use Prim.Native.Nat.{ℕ, suc, ◌+◌, ◌≤◌, ◌<◌}
-use mathlib.Core.Path.{◌≡◌, refl, sym, ap, ◌∙◌}
+use Prim.Native.Nat.{ℕ, suc, ◌+◌, ◌<◌}
+use mathlib.Core.Path.{◌≡◌, sym, ap, ◌∙◌}
 use mathlib.Core.List.{List, [], ◌∷◌, ◌++◌, map, map-append}
 use native.Mathlib.Numerals.{add-one}
-use native.Mathlib.Omega.{arith}
-use lib.ListN.{length, get_or, set, take, drop, replicate, length-append, length-set, replicate-append-replicate}
-use lib.Seq.{take-suc, drop-cons, append_snoc, set_at, take_at, take_all}
+use lib.ListN.{length, get_or, set, take, drop, length-append, length-set}
+use lib.Seq.{take-suc, drop-cons, append_snoc, set_at, take_at}
 
 module _ {A : Type 0} where
   pub record Filling (p old new : List A) (i : ℕ) : Type 0 where
     pub is : new ≡ p ++ drop i old
     pub front : length p ≡ i
     pub size : length new ≡ length old
-
-  pub fill_start : (old : List A) → Filling [] old old 0
-  fill_start old = record { is = refl; front = refl; size = refl }
 
   module _ {p old new : List A} {i : ℕ} (f : Filling p old new i) where
     -- q is p with x behind it
@@ -33,20 +29,10 @@ module _ {A : Type 0} where
     pub fill_front : take i new ≡ p
     fill_front = ap (take i) f.is ∙ take_at p (drop i old) i f.front
 
-    -- nothing of the old list is left
-    pub fill_whole : length old ≤ i → new ≡ p
-    fill_whole h = sym (take_all i new (omega (arith, f.size))) ∙ fill_front
-
--- ---- three kinds of p: one value, a copy, what g gives of a list
+-- ---- what g gives of a list
 
 take_more : {A : Type 0} (xs : List A) (i : ℕ) (d : A) → i < length xs → take i xs ++ get_or xs i d ∷ [] ≡ take (i + 1) xs
 take_more xs i d h = sym (rw (add-one i) (take-suc xs i d h))
-
-pub value_step : {A : Type 0} (x : A) {old new : List A} {i : ℕ} → Filling (replicate i x) old new i → i < length old → Filling (replicate (i + 1) x) old (set new i x) (i + 1)
-value_step x {i} f h = fill_step f x h (replicate-append-replicate i 1 x)
-
-pub copy_step : {A : Type 0} (xs : List A) (d : A) {old new : List A} {i : ℕ} → Filling (take i xs) old new i → i < length old → i < length xs → Filling (take (i + 1) xs) old (set new i (get_or xs i d)) (i + 1)
-copy_step xs d {i} f h k = fill_step f (get_or xs i d) h (take_more xs i d k)
 
 pub map_step : {A B : Type 0} (g : B → A) (xs : List B) (d : B) {old new : List A} {i : ℕ} {x : A} → Filling (map g (take i xs)) old new i → i < length old → i < length xs → x ≡ g (get_or xs i d) → Filling (map g (take (i + 1) xs)) old (set new i x) (i + 1)
 map_step g xs d {i} {x} f h k e = fill_step f x h (rw e (sym (map-append g (take i xs) (get_or xs i d ∷ [])) ∙ ap (map g) (take_more xs i d k)))

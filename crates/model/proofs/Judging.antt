@@ -1,20 +1,19 @@
 -- The refusals one by one: what each test of the judge decides, and that a sheet is well-formed where no test fails.
-use Prim.Native.Nat.{ℕ, zero, suc, ◌≤◌, ◌<◌}
+use Prim.Native.Nat.{ℕ, zero, suc, ◌≤◌}
 use mathlib.Core.Path.{◌≡◌, refl, sym}
 use mathlib.Core.Bool.{Bool, true, false, ◌&&◌}
 use mathlib.Core.List.{List, [], ◌∷◌}
 use native.Mathlib.Omega.{arith}
 use lib.ListN.{length, get_or}
 use lib.Dec.{leb}
-use borrow.Author.Tests.{le-leb, lt-leb, leb-true, eqb-true}
+use borrow.Author.Tests.{le-leb, leb-true, eqb-true}
 use Rattle.model.specs.declared.Counts.{Counts}
-use Rattle.model.specs.declared.Verdict.{Verdict}
-use Rattle.model.specs.declared.Verdict.TheVariants.{Good, Bad}
-use Rattle.model.specs.declared.Judged.{Judged}
-use Rattle.model.specs.declared.Judged.TheVariants.{Fine, Refused}
+use Rattle.std.specs.Prelude.{Ok, Err}
+use Rattle.model.specs.Judge.{Judged}
+use Rattle.model.specs.Judge.{Fine}
 use Rattle.model.specs.Layout.{header_size, counts_of, total}
-use Rattle.model.specs.Table.{all_after, all_of}
-use Rattle.model.specs.Judge.{counts_good, offsets_good, fields_good, lists_good, rows_good, refuse, refuse_field, judged, Small, Sound, WellFormed}
+use Rattle.model.specs.Table.{Verdict, all_after, all_of}
+use Rattle.model.specs.Judge.{counts_good, offsets_good, fields_good, lists_good, rows_good, refuse, refuse_field, judged, Small, WellFormed}
 
 -- ---- tests that hold together
 
@@ -44,23 +43,16 @@ all_of_at bs e i = all_after_at true bs e i
 
 -- ---- one refusal
 
-pub refuse_past : (n : ℕ) (b : Bool) (v : Judged) → b ≡ true → refuse n b v ≡ v
+refuse_past : (n : ℕ) (b : Bool) (v : Judged) → b ≡ true → refuse n b v ≡ v
 unfolding refuse
 refuse_past n b v e = rw (e, refuse)
 
-pub refuse_stop : (n : ℕ) (b : Bool) (v : Judged) → b ≡ false → refuse n b v ≡ Refused n 0
-unfolding refuse
-refuse_stop n b v e = rw (e, refuse)
-
-pub refuse_field_past : (u : Verdict) (v : Judged) → u ≡ Good → refuse_field u v ≡ v
+refuse_field_past : (u : Verdict) (v : Judged) → u ≡ Ok tt → refuse_field u v ≡ v
 unfolding refuse_field
 refuse_field_past u v e = rw (e, refuse_field)
 
-pub refuse_field_stop : (u : Verdict) (v : Judged) (a : ℕ) → u ≡ Bad a → refuse_field u v ≡ Refused 4 a
-unfolding refuse_field
-refuse_field_stop u v a e = rw (e, refuse_field)
-
 -- what is not refused has passed the test, and the tests behind it
+
 pub refuse_good : (n : ℕ) (b : Bool) (v : Judged) → refuse n b v ≡ Fine → b ≡ true
 unfolding refuse
 refuse_good n true v e = refl
@@ -71,15 +63,15 @@ unfolding refuse
 refuse_rest n true v e = e
 refuse_rest n false v e = cc
 
-pub refuse_field_good : (u : Verdict) (v : Judged) → refuse_field u v ≡ Fine → u ≡ Good
+pub refuse_field_good : (u : Verdict) (v : Judged) → refuse_field u v ≡ Fine → u ≡ Ok tt
 unfolding refuse_field
-refuse_field_good Good v e = refl
-refuse_field_good (Bad a) v e = cc
+refuse_field_good (Ok _) v e = refl
+refuse_field_good (Err a) v e = cc
 
 pub refuse_field_rest : (u : Verdict) (v : Judged) → refuse_field u v ≡ Fine → v ≡ Fine
 unfolding refuse_field
-refuse_field_rest Good v e = e
-refuse_field_rest (Bad a) v e = cc
+refuse_field_rest (Ok _) v e = e
+refuse_field_rest (Err a) v e = cc
 
 -- ---- what refusals 2 and 3 leave
 
@@ -90,47 +82,6 @@ small c e = record { p = leb-true _ _ (all_of_at _ e 0); n = leb-true _ _ (all_o
 pub whole : (s : List ℕ) (c : Counts) → offsets_good s c ≡ true → length s ≡ total c
 unfolding offsets_good
 whole s c e = sym (eqb-true _ _ (all_of_at _ e 7))
-
--- ---- the first refusal, test by test
-
-module _ (s : List ℕ) where
-  pub judged_1 : length s < header_size → Refused 1 0 ≡ judged s
-  unfolding judged
-  judged_1 h = rw (refuse_stop _ _ _ (lt-leb _ _ h))
-
-  module _ (h : header_size ≤ length s) where
-    pub judged_2 : counts_good (counts_of s) ≡ false → Refused 2 0 ≡ judged s
-    unfolding judged
-    judged_2 e = rw (refuse_past _ _ _ (le-leb _ _ h), refuse_stop _ _ _ e)
-
-    module _ (e2 : counts_good (counts_of s) ≡ true) where
-      pub judged_3 : offsets_good s (counts_of s) ≡ false → Refused 3 0 ≡ judged s
-      unfolding judged
-      judged_3 e = rw (refuse_past _ _ _ (le-leb _ _ h), refuse_past _ _ _ e2, refuse_stop _ _ _ e)
-
-      module _ (e3 : offsets_good s (counts_of s) ≡ true) where
-        pub judged_4 : (a : ℕ) → fields_good s (counts_of s) ≡ Bad a → Refused 4 a ≡ judged s
-        unfolding judged
-        judged_4 a e = rw (refuse_past _ _ _ (le-leb _ _ h), refuse_past _ _ _ e2, refuse_past _ _ _ e3, refuse_field_stop _ _ _ e)
-
-        module _ (e4 : fields_good s (counts_of s) ≡ Good) where
-          pub sound : Sound s (counts_of s)
-          sound = record { small = small _ e2; whole = whole _ _ e3; fields = e4 }
-
-          -- the lists
-          pub judged_5 : lists_good s (counts_of s) ≡ false → Refused 5 0 ≡ judged s
-          unfolding judged
-          judged_5 e = rw (refuse_past _ _ _ (le-leb _ _ h), refuse_past _ _ _ e2, refuse_past _ _ _ e3, refuse_field_past _ _ e4, refuse_stop _ _ _ e)
-
-          module _ (e5 : lists_good s (counts_of s) ≡ true) where
-            -- the rows
-            pub judged_6 : rows_good s (counts_of s) ≡ false → Refused 5 0 ≡ judged s
-            unfolding judged
-            judged_6 e = rw (refuse_past _ _ _ (le-leb _ _ h), refuse_past _ _ _ e2, refuse_past _ _ _ e3, refuse_field_past _ _ e4, refuse_past _ _ _ e5, refuse_stop _ _ _ e)
-
-            pub judged_fine : rows_good s (counts_of s) ≡ true → Fine ≡ judged s
-            unfolding judged
-            judged_fine e = rw (refuse_past _ _ _ (le-leb _ _ h), refuse_past _ _ _ e2, refuse_past _ _ _ e3, refuse_field_past _ _ e4, refuse_past _ _ _ e5, refuse_past _ _ _ e)
 
 -- ---- a sheet that is not refused
 
@@ -146,14 +97,22 @@ well_formed s e =
       header = refl;
       counts = refuse_good 2 (counts_good (counts_of s)) _ e2;
       offsets = refuse_good 3 (offsets_good s (counts_of s)) _ e3;
-      sound = sound s (leb-true _ _ (refuse_good 1 (leb header_size (length s)) _ e)) (refuse_good 2 (counts_good (counts_of s)) _ e2) (refuse_good 3 (offsets_good s (counts_of s)) _ e3) (refuse_field_good (fields_good s (counts_of s)) _ e4);
+      sound = record { small = small _ (refuse_good 2 (counts_good (counts_of s)) _ e2); whole = whole _ _ (refuse_good 3 (offsets_good s (counts_of s)) _ e3); fields = refuse_field_good (fields_good s (counts_of s)) _ e4 };
       lists = refuse_good 5 (lists_good s (counts_of s)) _ e5;
       rows = refuse_good 5 (rows_good s (counts_of s)) _ e6;
     }
 
 -- a well-formed sheet is not refused
 pub well_formed_fine : (s : List ℕ) (c : Counts) → WellFormed s c → judged s ≡ Fine
+unfolding judged
 well_formed_fine s c w =
     let long : header_size ≤ length s = omega (arith, w.sound.whole) in
     let e = w.header in
-    sym (judged_fine s long (rw e at w.counts) (rw e at w.offsets) (rw e at w.sound.fields) (rw e at w.lists) (rw e at w.rows))
+    rw (
+      refuse_past _ _ _ (le-leb _ _ long),
+      refuse_past _ _ _ (rw e at w.counts),
+      refuse_past _ _ _ (rw e at w.offsets),
+      refuse_field_past _ _ (rw e at w.sound.fields),
+      refuse_past _ _ _ (rw e at w.lists),
+      refuse_past _ _ _ (rw e at w.rows),
+    )

@@ -31,10 +31,6 @@ module _ (s : List ℕ) where
       let there : i + (j - i) ≡ j = omega arith in
       rw there at (before_add i (j - i))
 
-  -- the first point's rows are among all
-  pub first_le : (k : ℕ) → 0 < k → row_count s 0 ≤ rows_before s k
-  first_le k h = omega (arith, before_none, before_next 0, before_le 1 k h)
-
 -- where the rows are good, the counts add up to M
 pub rows_total : (s : List ℕ) (c : Counts) → rows_good s c ≡ true → rows_before s c.p ≡ c.m
 unfolding rows_good

@@ -1,7 +1,7 @@
 -- One call, on any byte sequence: the answer, and both answer lists afterwards.
 use Rattle.std.specs.Prelude.{ℕ, ◌+◌, ◌*◌, Bool, cond, List, [], ◌∷◌, map, leb, length, Float}
-use Rattle.model.specs.declared.Judged.{Judged}
-use Rattle.model.specs.declared.Judged.TheVariants.{Fine, Refused}
+use Rattle.model.specs.Judge.{Judged}
+use Rattle.model.specs.Judge.{Fine, Refused}
 use Rattle.model.specs.Numbers.{f0}
 use Rattle.model.specs.Lists.{head, last, pad}
 use Rattle.model.specs.Table.{all_of}

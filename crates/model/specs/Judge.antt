@@ -1,13 +1,9 @@
 -- "The sheet" and rows 1 to 5 of "When nothing is matched": which byte sequences are well-formed, and the refusal of any other.
-use Rattle.std.specs.Prelude.{ℕ, zero, suc, ◌+◌, ◌-◌, ◌*◌, ◌≤◌, ◌≡◌, Bool, true, false, cond, ◌&&◌, ◌||◌, not, List, [], ◌∷◌, ◌++◌, length, leb, ltb, eqb}
+use Rattle.std.specs.Prelude.{ℕ, zero, suc, ◌+◌, ◌-◌, ◌*◌, ◌≤◌, ◌≡◌, Bool, true, false, cond, ◌&&◌, ◌||◌, not, List, [], ◌∷◌, ◌++◌, length, leb, ltb, eqb, Ok, Err}
 use Rattle.model.specs.declared.Counts.{Counts}
-use Rattle.model.specs.declared.Verdict.{Verdict}
-use Rattle.model.specs.declared.Verdict.TheVariants.{Good, Bad}
-use Rattle.model.specs.declared.Judged.{Judged}
-use Rattle.model.specs.declared.Judged.TheVariants.{Fine, Refused}
 use Rattle.model.specs.Bytes.{u8_at, u32_at, u64_at}
 use Rattle.model.specs.Layout.{most_points, most_nodes, most_roads, most_rows, most_goals, most_measured, point_along_line, last_kind, header_size, counts_of, settings_at, points_at, roads_at, lists_at, numbers_at, rows_at, distances_at, goals_at, goal_width, total}
-use Rattle.model.specs.Table.{Field, first_bad, records, u8, u16, u32, f64, zeros, measures, up_to, below, measured, most_f64, bearing, all_of, every, met}
+use Rattle.model.specs.Table.{Verdict, Field, first_bad, records, u8, u16, u32, f64, zeros, measures, up_to, below, measured, most_f64, bearing, all_of, every, met}
 
 -- ---- the tables: a line for each field, in the order of the sheet
 
@@ -170,13 +166,18 @@ rows_good s c = all_of
 
 -- ---- the first of refusals 1 to 5, with its place A
 
+-- What refusals 1 to 5 say of a byte sequence: well-formed, or refused with its number and place A.
+pub data Judged : Type 0 where
+  Fine : Judged
+  Refused : ℕ → ℕ → Judged
+
 unfoldable pub refuse : ℕ → Bool → Judged → Judged
 refuse number true rest = rest
 refuse number false rest = Refused number 0
 
 unfoldable pub refuse_field : Verdict → Judged → Judged
-refuse_field Good rest = rest
-refuse_field (Bad at) rest = Refused 4 at
+refuse_field (Ok x) rest = rest
+refuse_field (Err at) rest = Refused 4 at
 
 unfoldable pub judged : List ℕ → Judged
 judged s =
@@ -200,7 +201,7 @@ pub record Small (c : Counts) : Type 0 where
 pub record Sound (s : List ℕ) (c : Counts) : Type 0 where
   pub small : Small c
   pub whole : length s ≡ total c
-  pub fields : fields_good s c ≡ Good
+  pub fields : fields_good s c ≡ Ok tt
 
 -- A sheet that rows 1 to 5 let pass is well-formed; c are the counts of its header.
 pub record WellFormed (s : List ℕ) (c : Counts) : Type 0 where

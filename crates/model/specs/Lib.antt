@@ -5,6 +5,8 @@ pub mod Bytes
 pub mod Layout
 pub mod Table
 pub mod Judge
+pub mod Kinds
+pub mod Refusals
 pub mod Sheet
 pub mod View
 pub mod Candidates

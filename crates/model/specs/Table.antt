@@ -1,8 +1,10 @@
 -- A record as a table of fields, each with its offset and its rule; the first bad field is named. Every value of a sheet is judged by such a table.
-use Rattle.std.specs.Prelude.{ℕ, zero, suc, ◌+◌, Bool, true, false, ◌&&◌, ◌||◌, List, [], ◌∷◌, leb, ltb, eqb}
-use Rattle.model.specs.declared.Verdict.{Verdict}
-use Rattle.model.specs.declared.Verdict.TheVariants.{Good, Bad}
+use Rattle.std.specs.Prelude.{ℕ, zero, suc, ◌+◌, Bool, true, false, ◌&&◌, ◌||◌, List, [], ◌∷◌, leb, ltb, eqb, Result, Ok, Err}
 use Rattle.model.specs.Bytes.{u8_at, u16_at, u32_at, u64_at}
+
+-- What a check finds: every field good, or where the first bad one begins.
+abbrev pub Verdict : Type 0
+Verdict = Result (Unit {0}) ℕ
 
 -- A field: where it begins in its record, and whether it is good in the sheet s where the record begins at `at`.
 pub record Field : Type 0 where
@@ -12,13 +14,13 @@ pub record Field : Type 0 where
 -- `rest`, where the field at `at` is good
 unfoldable pub need : Bool → ℕ → Verdict → Verdict
 need true at rest = rest
-need false at rest = Bad at
+need false at rest = Err at
 
 -- the first of two verdicts that is bad
 infixl 20 ◌then◌
 unfoldable pub ◌then◌ : Verdict → Verdict → Verdict
-Good then v = v
-Bad at then v = Bad at
+Ok _ then v = v
+Err at then v = Err at
 
 -- the first bad field of a record, or else `rest`
 unfoldable pub check_then : List ℕ → ℕ → List Field → Verdict → Verdict
@@ -26,11 +28,11 @@ check_then s at [] rest = rest
 check_then s at (f ∷ fs) rest = need (f.good s at) (at + f.off) (check_then s at fs rest)
 
 abbrev pub check : List ℕ → ℕ → List Field → Verdict
-check s at fs = check_then s at fs Good
+check s at fs = check_then s at fs (Ok tt)
 
 -- the first bad field of k records of w bytes each, which begin at `at`
 unfoldable pub records : List ℕ → ℕ → List Field → ℕ → ℕ → Verdict
-records s w fs zero at = Good
+records s w fs zero at = Ok tt
 records s w fs (suc k) at = check s at fs then records s w fs k (at + w)
 
 -- the first of a row of verdicts that is bad
@@ -39,7 +41,7 @@ first_bad_after v [] = v
 first_bad_after v (u ∷ us) = first_bad_after (v then u) us
 
 unfoldable pub first_bad : List Verdict → Verdict
-first_bad vs = first_bad_after Good vs
+first_bad vs = first_bad_after (Ok tt) vs
 
 -- ---- kinds of field, by what a good value is
 

@@ -1,7 +1,11 @@
 // The records that the definition in specs/ and the code above it share. The definition itself is specs/, read in the order of specs/Lib.antt.
 #![tactic(auto)]
 
+pub mod error;
+pub mod kind;
+
 // The header's counts: kind of the reference, points P, nodes N, roads E, measured rows M, goal rows G.
+// The kind is a number here, since it is read before it is judged.
 #[derive(Clone, Copy)]
 pub struct Counts {
     pub kind: usize,
@@ -10,20 +14,6 @@ pub struct Counts {
     pub e: usize,
     pub m: usize,
     pub g: usize,
-}
-
-// What a record's check finds: every field good, or where the first bad one begins.
-#[derive(Clone, Copy)]
-pub enum Verdict {
-    Good,
-    Bad(usize),
-}
-
-// What refusals 1 to 5 say of a byte sequence: well-formed, or refused with its number and place A.
-#[derive(Clone, Copy)]
-pub enum Judged {
-    Fine,
-    Refused(usize, usize),
 }
 
 // CandidateConfig and DecoderConfig of the Rust, in the order of the sheet.
@@ -48,6 +38,7 @@ pub struct Settings {
 }
 
 // A location reference point. `limit` is the LFRCNP, 255 where there is no path entry.
+// No Option: 255 is the sheet's own byte, and no class is above it, so that a comparison with it needs no case.
 #[derive(Clone, Copy)]
 pub struct Point {
     pub dnp: f64,
@@ -68,6 +59,7 @@ pub struct Row {
 }
 
 // A road with its number. Roads are compared by number, never by id.
+// `frc` and `fow` stay the White Paper's numbers, 0 to 7: classes are compared and subtracted, and the table of scores is indexed by forms of way.
 #[derive(Clone, Copy)]
 pub struct Road {
     pub number: usize,
@@ -120,8 +112,3 @@ pub const MOST_GOALS: usize = 1024;
 pub const MOST_MEASURED: u32 = 64;
 
 pub const MOST_CANDIDATES: u16 = 64;
-
-// The kinds of reference that are decoded.
-pub const LINE: usize = 1;
-
-pub const POINT_ALONG_LINE: usize = 2;

@@ -1,3 +1,1 @@
-pub mod Planning
-pub mod AfterPair
-pub mod Trying
+pub mod Told

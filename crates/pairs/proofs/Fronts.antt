@@ -1,11 +1,8 @@
--- Insertion sort: one that is below all before it, and that nothing behind it is below, comes out first. A sort keeps the length.
+-- Insertion sort: one that is below all before it, and that nothing behind it is below, comes out first.
 use mathlib.Core.Path.{◌≡◌, refl, sym, ap, ◌∙◌}
-use mathlib.Core.Bool.{Bool, true, false, cond}
+use mathlib.Core.Bool.{Bool, true, false}
 use mathlib.Core.List.Memᴰ
 use mathlib.Core.List.{List, [], ◌∷◌, ◌++◌}
-use Prim.Native.Nat.{suc, ◌+◌}
-use native.Mathlib.Omega.{arith}
-use lib.ListN.{length}
 use Rattle.model.specs.Lists.{insert, sort, fold}
 use Rattle.model.proofs.Members.{here, in_sort, Every}
 use Rattle.candidates.proofs.Folds.{fold_append}
@@ -33,21 +30,3 @@ module _ {A : Type 0} (below : A → A → Bool) where
       ∙ ap (λ (us : List A). inserts us zs) (insert_first x (sort below ys) (λ y m. h y (in_sort below ys m)))
       ∙ inserts_behind x (sort below ys) zs g
       ∙ ap (λ (us : List A). x ∷ us) (sym (fold_append f [] ys zs))
-
-  length_insert : (x : A) (ys : List A) → length (insert below x ys) ≡ suc (length ys)
-  unfolding insert
-  length_insert x [] = refl
-  length_insert x (y ∷ ys) = go (below x y) (length_insert x ys)
-    where
-      go : (b : Bool) → length (insert below x ys) ≡ suc (length ys) → length (cond b (x ∷ y ∷ ys) (y ∷ insert below x ys)) ≡ suc (suc (length ys))
-      go true e = refl
-      go false e = ap suc e
-
-  length_inserts : (ys xs : List A) → length (inserts ys xs) ≡ length ys + length xs
-  unfolding fold
-  length_inserts ys [] = omega arith
-  length_inserts ys (x ∷ xs) = length_inserts (insert below x ys) xs ∙ rw (length_insert x ys) (omega arith)
-
-  pub length_sort : (xs : List A) → length (sort below xs) ≡ length xs
-  unfolding sort
-  length_sort xs = length_inserts [] xs ∙ omega arith

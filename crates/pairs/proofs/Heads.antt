@@ -1,124 +1,89 @@
 -- The first start with the least head, one start more at a time.
-use mathlib.Core.Path.{◌≡◌, refl, sym, ◌∙◌, subst}
-use mathlib.Core.Logic.{◌⊎◌, inl, inr, ⊎_elim, ◌≢◌}
+use mathlib.Core.Path.{◌≡◌, refl}
+use Rattle.std.specs.Prelude.{Option, Some, None}
 use mathlib.Core.Bool.{true, false}
 use mathlib.Core.List.{List}
 use Prim.Native.Nat.{ℕ, ◌+◌, ◌<◌, ◌≤◌}
 use native.Mathlib.Omega.{arith}
-use lib.ListN.{get_or}
+use lib.ListN.{length, get_or}
 use lib.Ieee.{Float, lt}
-use borrow.Author.Tests.{ltb-true, ltb-false, lt-ltb, le-ltb}
-use Rattle.bounds.specs.Amounts.{Amount}
-use Rattle.bounds.proofs.Choices.{below_or_not}
+use borrow.Author.Count.{below_more}
 use Rattle.bounds.proofs.Rank.{rank}
-use Rattle.candidates.proofs.Ranked.{lt_is}
-use Rattle.pairs.specs.Left.{head_sum, Open, HeadAmounts, Least}
+use Rattle.candidates.proofs.Ranked.{below_rank, not_below_rank, rank_below, rank_not_below}
+use Rattle.candidates.specs.declared.candidate.Candidate as code
+use Rattle.pairs.specs.Left.{head_sum, Open, HeadAmounts, LeastOf}
 
--- `lt` of amounts by their ranks
-module _ (x y : Float) (p : Amount x) (q : Amount y) where
-  pub below_rank : lt x y ≡ true → rank x < rank y
-  below_rank e = ltb-true _ _ (sym (lt_is x y p q) ∙ e)
-
-  pub not_below_rank : lt x y ≡ false → rank y ≤ rank x
-  not_below_rank e = ltb-false _ _ (sym (lt_is x y p q) ∙ e)
-
-  pub rank_below : rank x < rank y → lt x y ≡ true
-  rank_below h = lt_is x y p q ∙ lt-ltb _ _ h
-
-  pub rank_not_below : rank y ≤ rank x → lt x y ≡ false
-  rank_not_below h = lt_is x y p q ∙ le-ltb _ _ h
-
--- what holds of each number below i and of i holds below i + 1
-one_more : (P : ℕ → Type 0) (i : ℕ) → ((k : ℕ) → k < i → P k) → P i → (k : ℕ) → k < i + 1 → P k
-one_more P i f p k h = ⊎_elim (f k) (λ (w : i ≤ k). let e : i ≡ k = omega arith in subst P e p) (below_or_not k i)
-
--- `best` and its sum among the starts below i; m where none of them has an end left
-abbrev pub Best : List Float → List Float → List ℕ → ℕ → ℕ → ℕ → ℕ → Float → Type 0
-Best starts ends heads m n i best least = ((best ≡ m) × ((k : ℕ) → k < i → n ≤ get_or heads k 0)) ⊎ ((least ≡ head_sum starts ends heads best) × Least starts ends heads n i best)
-
-module _ (starts ends : List Float) (heads : List ℕ) (m n : ℕ) where
+module _ (starts ends : List code.Candidate) (heads : List ℕ) where
   abbrev sum : ℕ → Float
   sum k = head_sum starts ends heads k
 
-  pub best_none : (least : Float) → Best starts ends heads m n 0 m least
-  best_none least = inl (refl, λ k h. absurd (omega arith))
-
-  -- no start is left to look at, and some start k has an end left
-  pub best_end : (k i best : ℕ) (least : Float) → k < m → Open heads n k → i ≡ m → Best starts ends heads m n i best least → Least starts ends heads n m best
-  best_end k i best least h o e b = ⊎_elim (λ u. absurd (let f = u.1 k (omega arith) in omega arith)) (λ u. rw e at u.1) b
-
-  module _ (i best : ℕ) (least : Float) (h : i < m) (b : Best starts ends heads m n i best least) where
-    fewer : HeadAmounts starts ends heads n (i + 1) → HeadAmounts starts ends heads n i
+  module _ (i : ℕ) where
+    fewer : HeadAmounts starts ends heads (i + 1) → HeadAmounts starts ends heads i
     fewer s k g = s k (omega arith)
 
     -- start i has no end left
-    pub best_skip : n ≤ get_or heads i 0 → Best starts ends heads m n (i + 1) best least
-    best_skip g = ⊎_elim
-        (λ u. inl (u.0, one_more (λ (k : ℕ). n ≤ get_or heads k 0) i u.1 g))
-        (λ u. inr (
-          u.0,
-          record {
-            below = let l = u.1.below in omega arith;
-            some_end = u.1.some_end;
-            before = λ s. u.1.before (fewer s);
-            behind = λ s. one_more (λ (k : ℕ). Open heads n k → lt (sum k) (sum best) ≡ false) i (u.1.behind (fewer s)) (λ o. absurd (omega arith));
-          },
-        ))
-        b
+    pub least_skip : (best : Option (ℕ × Float)) → LeastOf starts ends heads i best → length ends ≤ get_or heads i 0 → LeastOf starts ends heads (i + 1) best
+    least_skip None b g = below_more (λ (k : ℕ). length ends ≤ get_or heads k 0) i b g
+    least_skip (Some best) b g = (
+      b.0,
+      record {
+        below = let l = b.1.below in omega arith;
+        some_end = b.1.some_end;
+        before = λ s. b.1.before (fewer s);
+        behind = λ s. below_more (λ (k : ℕ). Open ends heads k → lt (sum k) (sum best.0) ≡ false) i (b.1.behind (fewer s)) (λ o. absurd (omega arith));
+      },
+    )
 
-    module _ (o : Open heads n i) where
-      self : HeadAmounts starts ends heads n (i + 1) → lt (sum i) (sum i) ≡ false
+    module _ (o : Open ends heads i) where
+      self : HeadAmounts starts ends heads (i + 1) → lt (sum i) (sum i) ≡ false
       self s = let p = s i (omega arith) o in rank_not_below (sum i) (sum i) p p (omega arith)
 
       -- the first with an end left
-      pub best_first : best ≡ m → Best starts ends heads m n (i + 1) i (head_sum starts ends heads i)
-      best_first e = ⊎_elim
-          (λ u. inr (
-            refl,
-            record {
-              below = omega arith;
-              some_end = o;
-              before = λ s k g q. absurd (let f = u.1 k g in omega arith);
-              behind = λ s. one_more (λ (k : ℕ). Open heads n k → lt (sum k) (sum i) ≡ false) i (λ k g q. absurd (let f = u.1 k g in omega arith)) (λ q. self s);
-            },
-          ))
-          (λ u. absurd (let l = u.1.below in omega arith))
-          b
+      pub least_first : LeastOf starts ends heads i None → LeastOf starts ends heads (i + 1) (Some (i, head_sum starts ends heads i))
+      least_first b = (
+        refl,
+        record {
+          below = omega arith;
+          some_end = o;
+          before = λ s k g q. absurd (let f = b k g in omega arith);
+          behind = λ s. below_more (λ (k : ℕ). Open ends heads k → lt (sum k) (sum i) ≡ false) i (λ k g q. absurd (let f = b k g in omega arith)) (λ q. self s);
+        },
+      )
 
-      -- one with a lower sum
-      pub best_lower : best ≢ m → lt (head_sum starts ends heads i) least ≡ true → Best starts ends heads m n (i + 1) i (head_sum starts ends heads i)
-      best_lower d t = ⊎_elim (λ u. absurd (d u.0)) (λ u. inr (refl, lower u.1 (subst (λ (z : Float). lt (sum i) z ≡ true) u.0 t))) b
-        where
-          above : Least starts ends heads n i best → lt (sum i) (sum best) ≡ true → HeadAmounts starts ends heads n (i + 1) → (k : ℕ) → k < i → Open heads n k → rank (sum i) < rank (sum k)
-          above l t s k g q =
-              let pi = s i (omega arith) o in
-              let pb = s best (let w = l.below in omega arith) l.some_end in
-              let pk = s k (omega arith) q in
-              let f = below_rank (sum i) (sum best) pi pb t in
-              let r = not_below_rank (sum k) (sum best) pk pb (l.behind (fewer s) k g q) in
-              omega arith
+      module _ (best : ℕ) (least : Float) (b : LeastOf starts ends heads i (Some (best, least))) where
+        above : lt (sum i) (sum best) ≡ true → HeadAmounts starts ends heads (i + 1) → (k : ℕ) → k < i → Open ends heads k → rank (sum i) < rank (sum k)
+        above t s k g q =
+            let pi = s i (omega arith) o in
+            let pb = s best (let w = b.1.below in omega arith) b.1.some_end in
+            let pk = s k (omega arith) q in
+            let f = below_rank (sum i) (sum best) pi pb t in
+            let r = not_below_rank (sum k) (sum best) pk pb (b.1.behind (fewer s) k g q) in
+            omega arith
 
-          lower : Least starts ends heads n i best → lt (sum i) (sum best) ≡ true → Least starts ends heads n (i + 1) i
-          lower l t = record {
-            below = omega arith;
-            some_end = o;
-            before = λ s k g q. rank_below (sum i) (sum k) (s i (omega arith) o) (s k (omega arith) q) (above l t s k g q);
-            behind = λ s. one_more (λ (k : ℕ). Open heads n k → lt (sum k) (sum i) ≡ false) i
-                (λ k g q. rank_not_below (sum k) (sum i) (s k (omega arith) q) (s i (omega arith) o) (let a = above l t s k g q in omega arith))
-                (λ q. self s);
-          }
+        -- one with a lower sum
+        pub least_lower : lt (head_sum starts ends heads i) least ≡ true → LeastOf starts ends heads (i + 1) (Some (i, head_sum starts ends heads i))
+        least_lower e =
+            let t : lt (sum i) (sum best) ≡ true = rw b.0 at e in (
+              refl,
+              record {
+                below = omega arith;
+                some_end = o;
+                before = λ s k g q. rank_below (sum i) (sum k) (s i (omega arith) o) (s k (omega arith) q) (above t s k g q);
+                behind = λ s. below_more (λ (k : ℕ). Open ends heads k → lt (sum k) (sum i) ≡ false) i
+                    (λ k g q. rank_not_below (sum k) (sum i) (s k (omega arith) q) (s i (omega arith) o) (let a = above t s k g q in omega arith))
+                    (λ q. self s);
+              },
+            )
 
-      -- one whose sum is not lower
-      pub best_stays : best ≢ m → lt (head_sum starts ends heads i) least ≡ false → Best starts ends heads m n (i + 1) best least
-      best_stays d t = ⊎_elim
-          (λ u. absurd (d u.0))
-          (λ u. inr (
-            u.0,
-            record {
-              below = let l = u.1.below in omega arith;
-              some_end = u.1.some_end;
-              before = λ s. u.1.before (fewer s);
-              behind = λ s. one_more (λ (k : ℕ). Open heads n k → lt (sum k) (sum best) ≡ false) i (u.1.behind (fewer s)) (λ q. subst (λ (z : Float). lt (sum i) z ≡ false) u.0 t);
-            },
-          ))
-          b
+        -- one whose sum is not lower
+        pub least_stays : lt (head_sum starts ends heads i) least ≡ false → LeastOf starts ends heads (i + 1) (Some (best, least))
+        least_stays e =
+            let t : lt (sum i) (sum best) ≡ false = rw b.0 at e in (
+              b.0,
+              record {
+                below = let l = b.1.below in omega arith;
+                some_end = b.1.some_end;
+                before = λ s. b.1.before (fewer s);
+                behind = λ s. below_more (λ (k : ℕ). Open ends heads k → lt (sum k) (sum best) ≡ false) i (b.1.behind (fewer s)) (λ q. t);
+              },
+            )

@@ -1,22 +1,19 @@
--- The pairs that are left: all at the start, and some while a start has an end left. They split at a start.
+-- The pairs that are left: all at the start, and none where no start has an end left. They split at a start.
 use mathlib.Core.Path.{◌≡◌, refl, sym, ap, ◌∙◌}
-use mathlib.Core.Logic.{⊎_elim}
 use mathlib.Core.List.{List, [], ◌∷◌, ◌++◌, map, append_assoc}
 use Prim.Native.Nat.{ℕ, zero, suc, ◌<◌, ◌≤◌, suc-le-suc}
 use native.Mathlib.Nat.{not-suc-le-zero, le_of_suc-le-suc, zero-lt-suc}
 use native.Mathlib.Omega.{arith}
 use lib.ListN.{length, get_or, take, drop, replicate, length-replicate, get_or-replicate, drop_of_length-le}
-use lib.Seq.{get_or-take}
 use Rattle.model.specs.Candidates.{Candidate}
 use Rattle.model.specs.Legs.{Pair, pair, pairs}
 use Rattle.model.proofs.Members.{Every, every_none, every_cons, every_append, every_map}
-use Rattle.bounds.proofs.Choices.{below_or_not}
 use Rattle.candidates.specs.Found.{no_candidate}
 use Rattle.pairs.specs.Left.{left}
 
 -- ---- at the start and at the end
 
-pub left_start : (xs ys : List Candidate) (heads : List ℕ) → length xs ≤ length heads → ((i : ℕ) → i < length xs → get_or heads i 0 ≡ 0) → left xs ys (take (length xs) heads) ≡ pairs xs ys
+pub left_start : (xs ys : List Candidate) (heads : List ℕ) → length xs ≤ length heads → ((i : ℕ) → i < length xs → get_or heads i 0 ≡ 0) → left xs ys heads ≡ pairs xs ys
 unfolding left pairs
 left_start [] ys heads fit z = refl
 left_start (x ∷ xs) ys [] fit z = absurd (not-suc-le-zero fit)
@@ -25,23 +22,15 @@ left_start (x ∷ xs) ys (h ∷ heads) fit z =
     rw (e, left_start xs ys heads (le_of_suc-le-suc fit) (λ i g. z (suc i) (suc-le-suc g)))
 
 -- heads that are all 0
-pub left_zeros : (xs ys : List Candidate) (k : ℕ) → length xs ≤ k → left xs ys (take (length xs) (replicate k 0)) ≡ pairs xs ys
+pub left_zeros : (xs ys : List Candidate) (k : ℕ) → length xs ≤ k → left xs ys (replicate k 0) ≡ pairs xs ys
 left_zeros xs ys k fit = left_start xs ys (replicate k 0) (rw (length-replicate {A = ℕ} k 0) fit) (λ i h. get_or-replicate k i 0 0 (omega arith))
 
-some_row : (ys : List Candidate) (xs : List Candidate) (hs : List ℕ) → 0 < length (left xs ys hs) → (i : ℕ) × (i < length xs) × (get_or hs i 0 < length ys)
+-- no start has an end left
+pub left_none : (xs ys : List Candidate) (heads : List ℕ) → ((k : ℕ) → k < length xs → length ys ≤ get_or heads k 0) → left xs ys heads ≡ []
 unfolding left
-some_row ys [] hs h = absurd (not-suc-le-zero h)
-some_row ys (x ∷ xs) [] h = absurd (not-suc-le-zero h)
-some_row ys (x ∷ xs) (k ∷ hs) h = ⊎_elim
-    (λ (w : k < length ys). (0, zero-lt-suc (length xs), w))
-    (λ (w : length ys ≤ k). let r = some_row ys xs hs (rw (drop_of_length-le ys w) at h) in (suc r.0, suc-le-suc r.1, r.2))
-    (below_or_not k (length ys))
-
-pub some_left : (xs ys : List Candidate) (heads : List ℕ) (m n : ℕ) → length xs ≡ m → length ys ≡ n → 0 < length (left xs ys (take m heads)) → (i : ℕ) × (i < m) × (get_or heads i 0 < n)
-some_left xs ys heads m n em en h =
-    let r = some_row ys xs (take m heads) h in
-    let g : r.0 < m = let a = r.1 in omega arith in
-    (r.0, g, rw (get_or-take m heads r.0 0 g, en) at r.2)
+left_none [] ys heads f = refl
+left_none (x ∷ xs) ys [] f = refl
+left_none (x ∷ xs) ys (h ∷ heads) f = rw (drop_of_length-le ys (f 0 (zero-lt-suc (length xs))), left_none xs ys heads (λ k g. f (suc k) (suc-le-suc g)))
 
 -- ---- split at start p
 

@@ -1,2 +1,3 @@
 pub mod Measuring
+pub mod Running
 pub mod Whole

@@ -4,15 +4,4 @@
 mod measures;
 mod need;
 pub mod parts;
-
-// The parts of a sheet whose records a table judges.
-#[derive(Clone, Copy)]
-pub enum Part {
-    Header,
-    Settings,
-    Point,
-    Road,
-    Number,
-    Row,
-    Goal,
-}
+mod records;

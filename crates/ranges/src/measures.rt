@@ -1,56 +1,42 @@
 // A run of f64, judged about as fast as it can be read.
-ghost use Rattle.std.specs.Prelude.{◌≡◌, ◌+◌, ◌*◌, ◌≤◌, length};
-ghost use Rattle.model.specs.Bytes.{u64_at};
-ghost use Rattle.model.specs.Table.{check_then, every, measured};
+ghost use Rattle.std.specs.Prelude.{◌≡◌, ◌+◌, ◌*◌, ◌≤◌, length, true, Ok, All};
+ghost use Rattle.std.specs.Int.{w64, from_le_bytes};
+ghost use Rattle.model.specs.Table.{check_then, records, most_f64};
 ghost use Rattle.model.specs.Table as table;
+ghost use Rattle.model.specs.Judge.{distance_table};
 
-use model::Verdict;
+use crate::need::run;
+use crate::records;
 
-// Whether k f64 are all good, with no branch on any of them.
+// Whether f64 are all good, with no branch on any of them.
 // Bits v up to MOST have a clear top bit, and so has MOST - v; of greater bits one of the two is set.
-fn all_measured(s: &[u8], at: usize, k: usize) -> bool
-    requires { at + k * 8 ≤ length s.now }
-    ensures { result ≡ every (λ i. measured (u64_at s.now (at + i * 8))) k 0 }
+fn all_measured(words: &[[u8; 8]]) -> bool
+    ensures { result ≡ true → All (λ w. from_le_bytes w64 w ≤ most_f64) words.now }
 {
     let mut all: u64 = 0;
-    let mut i = 0;
-    let mut left = k;
-    while 0 < left {
-        let v = fields::u64_at(s, at + i * 8);
-        let w = std::num::wrapping_sub_u64(fields::MOST, v);
-        all = all | v | w;
-        i += 1;
-        left -= 1;
+    for word in words {
+        let v = u64::from_le_bytes(*word);
+        let w = fields::MOST.wrapping_sub(v);
+        all |= v | w;
     }
     all < 0x8000_0000_0000_0000
 }
 
-// The first bad one of k f64, one by one.
-fn first_bad(s: &[u8], at: usize, off: usize, k: usize, rest: Verdict) -> Verdict
-    requires { at + off + k * 8 ≤ length s.now }
-    ensures { result ≡ check_then s.now at (table.measures off k) rest }
+// k distances: one by one only where one is bad.
+pub fn distances(s: &[u8], base: usize, k: usize) -> Result<(), usize>
+    requires { base + k * 8 ≤ length s.now }
+    ensures { result ≡ records s.now 8 distance_table k base }
 {
-    let mut o = off;
-    let mut left = k;
-    while 0 < left {
-        let a = at + o;
-        if fields::u64_at(s, a) > fields::MOST {
-            return Verdict::Bad(a);
-        }
-        o += 8;
-        left -= 1;
+    if all_measured(fields::words(s, base, k)) {
+        return Ok(());
     }
-    rest
+    run(base, 8, k, |at| records::distance(s, at))
 }
 
-// k f64 of a record: `rest` where all are good.
-pub(crate) fn measures(s: &[u8], at: usize, off: usize, k: usize, rest: Verdict) -> Verdict
+// k measures of a record, from `off`.
+pub(crate) fn measures(s: &[u8], at: usize, off: usize, k: usize) -> Result<(), usize>
     requires { at + off + k * 8 ≤ length s.now }
-    ensures { result ≡ check_then s.now at (table.measures off k) rest }
+    ensures { result ≡ check_then s.now at (table.measures off k) (Ok tt) }
 {
-    let a = at + off;
-    if all_measured(s, a, k) {
-        return rest;
-    }
-    first_bad(s, at, off, k, rest)
+    distances(s, at + off, k)
 }

@@ -1,58 +1,63 @@
 // The call of a case, with as many entries of each area as its record says.
-ghost use Rattle.std.specs.Prelude.{◌+◌, ◌≤◌, length};
+// Before the call every entry is 7: a case sees by that whether its lists stay untouched or are zeroed; what stands in the work areas has no part in an answer.
+ghost use Rattle.std.specs.Prelude.{◌≡◌, true};
+ghost use Rattle.replay.specs.Agreeing.{ListsAgree};
 
-use crate::areas::{metres, metres_twice, numbers, numbers_twice};
-use crate::record::{halves_at, size_at};
+use crate::expected::Expected;
+use crate::record::{MOST, Record};
 use answers::Answer;
 
-// With the heap and the coverage area.
-fn call_with_heap(
-    file: &[u8],
-    at: usize,
-    sheet: &[u8],
-    labels: &mut [f64],
-    came_from: &mut [usize],
-    ids: &mut [u64],
-    lengths: &mut [f64],
-) -> Answer
-    requires { at + 52 ≤ length file.now }
-{
-    let mut entries = metres_twice();
-    let mut links = numbers_twice();
-    let mut covered = numbers();
-    let mut coverage = metres();
-    let entries_size = halves_at(file, at, 3);
-    let links_size = halves_at(file, at, 5);
-    let covered_size = size_at(file, at, 7);
-    let coverage_size = size_at(file, at, 8);
+// What the answer lists hold before the call.
+pub const ID: u64 = 7;
+
+pub const LENGTH: f64 = 7.0;
+
+// With the work areas.
+fn call(record: &Record<'_>, sheet: &[u8], ids: &mut [u64], lengths: &mut [f64]) -> Answer {
+    let mut labels = [LENGTH; 2 * MOST];
+    let mut came_from = [7usize; MOST];
+    let mut entries = [LENGTH; 2 * MOST];
+    let mut links = [7usize; 2 * MOST];
+    let mut covered = [7usize; MOST];
+    let mut coverage = [LENGTH; MOST];
     decoder::decode(
         sheet,
-        labels,
-        came_from,
-        &mut entries[..entries_size],
-        &mut links[..links_size],
-        &mut covered[..covered_size],
-        &mut coverage[..coverage_size],
+        &mut labels[..record.halves(0)],
+        &mut came_from[..record.size(2)],
+        &mut entries[..record.halves(3)],
+        &mut links[..record.halves(5)],
+        &mut covered[..record.size(7)],
+        &mut coverage[..record.size(8)],
         ids,
         lengths,
     )
 }
 
-// With all areas but the answer lists.
-pub fn call(file: &[u8], at: usize, sheet: &[u8], ids: &mut [u64], lengths: &mut [f64]) -> Answer
-    requires { at + 52 ≤ length file.now }
+// The call on lists that are as long as the case's, and the comparison.
+fn run(
+    record: &Record<'_>,
+    sheet: &[u8],
+    expected: &Expected<'_>,
+    ids: &mut [u64],
+    lengths: &mut [f64],
+) -> bool
+    ensures { result ≡ true → ListsAgree ids.new lengths.new expected.now }
 {
-    let mut labels = metres_twice();
-    let mut came_from = numbers();
-    let labels_size = halves_at(file, at, 0);
-    let came_from_size = size_at(file, at, 2);
-    call_with_heap(
-        file,
-        at,
-        sheet,
-        &mut labels[..labels_size],
-        &mut came_from[..came_from_size],
-        ids,
-        lengths,
-    )
+    let answer = call(record, sheet, ids, lengths);
+    expected.answer_agrees(answer) && expected.lists_agree(ids, lengths)
+}
+
+// Whether a case gives what it expects. A record that points out of the file or asks for too much does not.
+pub fn agrees(record: &Record<'_>) -> bool {
+    let (Some(sheet), Some(expected)) = (record.sheet(), record.expected()) else {
+        return false;
+    };
+    if !record.sizes_fit() {
+        return false;
+    }
+    let mut ids = [ID; MOST];
+    let mut lengths = [LENGTH; MOST];
+    let ids = &mut ids[..record.size(9)];
+    let lengths = &mut lengths[..record.size(10)];
+    run(record, sheet, &expected, ids, lengths)
 }

@@ -4,9 +4,9 @@
 // wrong.bin has cases that expect one thing wrong each, all of which must be noticed.
 #![tactic(auto)]
 
-mod areas;
 mod call;
 mod compare;
+mod expected;
 mod list;
 mod record;
 

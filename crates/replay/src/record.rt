@@ -1,71 +1,92 @@
 // A case's record, 52 bytes: u32 place and length of the sheet, place of the answer, roads of the path, number of the refusal (0: a match), A, B;
 // u16 entries of eleven areas, in the order of the call, each half of an area of two halves for itself; u16 1 where the lists stay untouched, 0 where zeros stand behind the path.
 // The answer of a match: length, offset and fraction at the start, offset and fraction at the end, u64 id of the primary road, its coverage; then u64 id and length of each road. An f64 is stored by its bits.
-ghost use Rattle.std.specs.Prelude.{◌+◌, ◌*◌, ◌^◌, ◌≤◌, ◌<◌, length};
+ghost use Rattle.std.specs.Prelude.{◌+◌, ◌*◌, ◌<◌, ◌≤◌, length};
 
-use crate::areas::MOST;
+use crate::expected::{Expected, Refusal};
 use fields::{count_at, u16_at};
 
-// What a case expects: a refusal's number, A and B, or number 0; where the answer stands and how many roads its path has; 1 where the lists stay untouched.
+// The bytes of a record.
+pub const SIZE: usize = 52;
+
+// The most entries that a case lends of an area.
+pub const MOST: usize = 1024;
+
+// The record that begins at `at`.
 #[derive(Clone, Copy)]
-pub struct Expected {
-    pub number: usize,
-    pub a: usize,
-    pub b: usize,
-    pub place: usize,
-    pub roads: usize,
-    pub untouched: usize,
+pub struct Record<'a> {
+    pub file: &'a [u8],
+    pub at: usize,
+    ghost inside: { at + 52 ≤ length file.now },
 }
 
-pub fn expected_at(file: &[u8], at: usize) -> Expected
-    requires { at + 52 ≤ length file.now }
-    ensures { (result.place < 2 ^ 32) × (result.roads < 2 ^ 32) }
-{
-    let place = count_at(file, at + 8);
-    let roads = count_at(file, at + 12);
-    let number = count_at(file, at + 16);
-    let a = count_at(file, at + 20);
-    let b = count_at(file, at + 24);
-    let untouched = u16_at(file, at + 50) as usize;
-    Expected {
-        number,
-        a,
-        b,
-        place,
-        roads,
-        untouched,
-    }
-}
-
-// The entries of area k, at most MOST.
-pub fn size_at(file: &[u8], at: usize, k: usize) -> usize
-    requires { (at + 52 ≤ length file.now) × (k < 11) }
-    ensures { result ≤ 1024 }
-{
-    let size = u16_at(file, at + 28 + 2 * k) as usize;
-    if size < MOST { size } else { MOST }
-}
-
-// The places of an area whose halves are the areas k and k + 1: twice the lesser of their entries.
-pub fn halves_at(file: &[u8], at: usize, k: usize) -> usize
-    requires { (at + 52 ≤ length file.now) × (k + 1 < 11) }
-    ensures { result ≤ 2048 }
-{
-    let a = size_at(file, at, k);
-    let b = size_at(file, at, k + 1);
-    if a < b { 2 * a } else { 2 * b }
-}
-
-// Whether every area has at most MOST entries.
-pub fn sizes_fit(file: &[u8], at: usize) -> bool
-    requires { at + 52 ≤ length file.now }
-{
-    let mut k = 0;
-    while k < 11 {
-        if MOST < u16_at(file, at + 28 + 2 * k) as usize {
-            return false;
+impl<'a> Record<'a> {
+    // The sheet; none where it ends behind the file.
+    pub fn sheet(&self) -> Option<&'a [u8]> {
+        let start = count_at(self.file, self.at);
+        let end = start + count_at(self.file, self.at + 4);
+        if self.file.len() < end {
+            return None;
         }
-        k += 1;
+        Some(&self.file[start..end])
     }
-    true
+
+    // What the call must answer; none where the answer ends behind the file, or the mark of untouched lists is no mark.
+    pub fn expected(&self) -> Option<Expected<'a>> {
+        let place = count_at(self.file, self.at + 8);
+        let roads = count_at(self.file, self.at + 12);
+        if self.file.len() < place + 56 + 16 * roads {
+            return None;
+        }
+        let untouched = match u16_at(self.file, self.at + 50) {
+            0 => false,
+            1 => true,
+            _ => return None,
+        };
+        Some(Expected {
+            file: self.file,
+            place,
+            roads,
+            refusal: self.refusal(),
+            untouched,
+        })
+    }
+
+    // The refusal that is expected; none where it is a match.
+    fn refusal(&self) -> Option<Refusal> {
+        let number = count_at(self.file, self.at + 16);
+        if number == 0 {
+            return None;
+        }
+        let a = count_at(self.file, self.at + 20);
+        let b = count_at(self.file, self.at + 24);
+        Some(Refusal { number, a, b })
+    }
+
+    // The entries of area k, at most MOST. By its place, as the file has them.
+    pub fn size(&self, k: usize) -> usize
+        requires { k < 11 }
+        ensures { result ≤ 1024 }
+    {
+        let size = usize::from(u16_at(self.file, self.at + 28 + 2 * k));
+        size.min(MOST)
+    }
+
+    // The places of an area whose halves are the areas k and k + 1: twice the lesser of their entries.
+    pub fn halves(&self, k: usize) -> usize
+        requires { k + 1 < 11 }
+        ensures { result ≤ 2048 }
+    {
+        2 * self.size(k).min(self.size(k + 1))
+    }
+
+    // Whether every area has at most MOST entries.
+    pub fn sizes_fit(&self) -> bool {
+        for k in 0..11 {
+            if MOST < usize::from(u16_at(self.file, self.at + 28 + 2 * k)) {
+                return false;
+            }
+        }
+        true
+    }
 }

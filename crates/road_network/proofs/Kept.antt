@@ -1,12 +1,13 @@
 -- The walk over the roads by rising number, with its early end, against the neighbours that all roads give.
 use Prim.Native.Nat.{ℕ, suc, ◌+◌, ◌-◌, ◌≤◌, ◌<◌}
 use mathlib.Core.Path.{◌≡◌, refl, sym, ap, ◌∙◌, subst}
-use mathlib.Core.Bool.{Bool, true, false, not, cond, and-true, true≢false, false≢true}
+use mathlib.Core.Bool.{Bool, true, false, not, cond, and-true}
 use mathlib.Core.List.Memᴰ
 use mathlib.Core.List.{List, [], ◌∷◌}
 use native.Mathlib.Omega.{arith}
 use lib.Dec.{T, T_not, not_T, eqb, ltb, nltb→le}
 use lib.ListN.{length}
+use Rattle.std.specs.Prelude.{Option, Some, None, option_map}
 use borrow.Author.Tests.{eqb-true, eqb-false}
 use Rattle.model.specs.declared.Neighbour.{Neighbour}
 use Rattle.model.specs.declared.Road.{Road}
@@ -16,9 +17,9 @@ use Rattle.model.specs.Ends.{grown, note, meet_road, around, ins_of, outs_of, is
 use Rattle.model.proofs.Members.{or_l, or_r, here}
 use Rattle.bounds.proofs.Few.{note_self, through}
 use Rattle.road_network.specs.declared.graph.Neighbours.{Neighbours}
-use Rattle.road_network.specs.declared.graph.Neighbours.TheVariants.{Nobody, One, Two, Choice}
+use Rattle.road_network.specs.declared.graph.Neighbours.TheVariants.{Nobody, One, Two}
 use Rattle.road_network.specs.Graph.{decided, reads, roads_read}
-use Rattle.road_network.specs.Neighbours.{is_second, new_neighbour, meet_node, meets_road, has_choice, Few, is_through}
+use Rattle.road_network.specs.Neighbours.{is_second, new_neighbour, one_more, meet_node, meets_road, Few, is_through}
 use Rattle.road_network.proofs.Runs.{run_step, run_end}
 use Rattle.road_network.proofs.Deciding.{Plain, plain_no, new_neighbour_plain, grown_plain, second_choice, Open, open_of, open_fold}
 
@@ -27,7 +28,6 @@ unfoldable pub listed : Neighbours → List Neighbour
 listed Nobody = []
 listed (One a) = a ∷ []
 listed (Two a b) = a ∷ b ∷ []
-listed Choice = []
 
 module _ (v : ℕ) where
   -- none of them is a choice
@@ -35,58 +35,44 @@ module _ (v : ℕ) where
   Clean Nobody = Unit
   Clean (One a) = Plain v a
   Clean (Two a b) = Plain v a × Plain v b
-  Clean Choice = ⊥
 
   pub few : (x : Neighbours) → Clean x → Few x
   unfolding Clean
   few Nobody h = tt
   few (One a) h = tt
   few (Two a b) h = (h.0.few_in, h.0.few_out, h.1.few_in, h.1.few_out)
-  few Choice h = tt
 
-  -- x is what the code keeps of the neighbours xs
-  record Kept (xs : List Neighbour) (x : Neighbours) : Type 0 where
-    choice : has_choice x ≡ true → Open v xs → ⊥
-    same : has_choice x ≡ false → (listed x ≡ xs) × Clean x
-
-  chosen : {xs : List Neighbour} → (Open v xs → ⊥) → Kept xs Choice
-  unfolding has_choice
-  chosen h = record { choice = λ e. h; same = λ e. absurd (true≢false e) }
-
-  kept : (x : Neighbours) → Clean x → Kept (listed x) x
-  unfolding has_choice Clean
-  kept Nobody h = record { choice = λ e. absurd (false≢true e); same = λ e. (refl, h) }
-  kept (One a) h = record { choice = λ e. absurd (false≢true e); same = λ e. (refl, h) }
-  kept (Two a b) h = record { choice = λ e. absurd (false≢true e); same = λ e. (refl, h) }
-  kept Choice h = absurd h
+  -- what the code keeps of the neighbours xs: themselves, or nothing where there is a choice
+  abbrev pub Kept : List Neighbour → Option Neighbours → Type 0
+  Kept xs (Some x) = (listed x ≡ xs) × Clean x
+  Kept xs None = Open v xs → ⊥
 
   -- ---- one road more
 
   kept_note : (x : Neighbours) → Clean x → (u : ℕ) (inward : Bool) → (u ≡ v → ⊥) → Kept (note u inward (listed x)) (meet_node x u inward)
-  unfolding Clean listed note meet_node
-  kept_note Nobody h u inward q = kept (One (new_neighbour u inward)) (new_neighbour_plain v u inward q)
+  unfolding Clean listed note one_more meet_node
+  kept_note Nobody h u inward q = (refl, new_neighbour_plain v u inward q)
   kept_note (One a) h u inward q = go (eqb a.node u) (is_second inward a) refl
     where
       go : (is-a twice : Bool) → is_second inward a ≡ twice
-          → Kept (cond is-a (grown inward a ∷ []) (a ∷ new_neighbour u inward ∷ [])) (cond is-a (cond twice Choice (One (grown inward a))) (Two a (new_neighbour u inward)))
-      go true true e = chosen (λ o. second_choice v inward a e (o.plain _ here))
-      go true false e = kept (One (grown inward a)) (grown_plain v inward a e h)
-      go false twice e = kept (Two a (new_neighbour u inward)) (h, new_neighbour_plain v u inward q)
+          → Kept (cond is-a (grown inward a ∷ []) (a ∷ new_neighbour u inward ∷ [])) (cond is-a (option_map One (cond twice None (Some (grown inward a)))) (Some (Two a (new_neighbour u inward))))
+      go true true e = λ o. second_choice v inward a e (o.plain _ here)
+      go true false e = (refl, grown_plain v inward a e h)
+      go false twice e = (refl, (h, new_neighbour_plain v u inward q))
   kept_note (Two a b) h u inward q = go (eqb a.node u) (is_second inward a) (eqb b.node u) (is_second inward b) refl refl
     where
       go : (is-a a-twice is_b b-twice : Bool) → is_second inward a ≡ a-twice → is_second inward b ≡ b-twice
           → Kept (cond is-a (grown inward a ∷ b ∷ []) (a ∷ cond is_b (grown inward b ∷ []) (b ∷ new_neighbour u inward ∷ [])))
-          (cond is-a (cond a-twice Choice (Two (grown inward a) b)) (cond is_b (cond b-twice Choice (Two a (grown inward b))) Choice))
-      go true true is_b b-twice e f = chosen (λ o. second_choice v inward a e (o.plain _ here))
-      go true false is_b b-twice e f = kept (Two (grown inward a) b) (grown_plain v inward a e h.0, h.1)
-      go false a-twice true true e f = chosen (λ o. second_choice v inward b f (o.plain _ (Memᴰ.tail here)))
-      go false a-twice true false e f = kept (Two a (grown inward b)) (h.0, grown_plain v inward b f h.1)
-      go false a-twice false b-twice e f = chosen (λ o. omega (arith, o.few))
-  kept_note Choice h u inward q = absurd h
+          (cond is-a (option_map (λ x. Two x b) (cond a-twice None (Some (grown inward a)))) (cond is_b (option_map (λ x. Two a x) (cond b-twice None (Some (grown inward b)))) None))
+      go true true is_b b-twice e f = λ o. second_choice v inward a e (o.plain _ here)
+      go true false is_b b-twice e f = (refl, (grown_plain v inward a e h.0, h.1))
+      go false a-twice true true e f = λ o. second_choice v inward b f (o.plain _ (Memᴰ.tail here))
+      go false a-twice true false e f = (refl, (h.0, grown_plain v inward b f h.1))
+      go false a-twice false b-twice e f = λ o. omega (arith, o.few)
 
   -- a self-loop makes the node its own neighbour
-  self_loop : (u : ℕ) (xs : List Neighbour) → u ≡ v → Kept (note u true xs) Choice
-  self_loop u xs e = chosen (λ o. let own = note_self v u true xs e in (o.plain own.0 own.1).other own.2)
+  self_loop : (u : ℕ) (xs : List Neighbour) → u ≡ v → Open v (note u true xs) → ⊥
+  self_loop u xs e o = let own = note_self v u true xs e in (o.plain own.0 own.1).other own.2
 
   kept_road : (x : Neighbours) → Clean x → (r : Road) → Kept (meet_road v (listed x) r) (meets_road v x r.source r.target)
   unfolding meet_road meets_road
@@ -94,11 +80,11 @@ module _ (v : ℕ) where
     where
       go : (into out : Bool) → eqb r.target v ≡ into → eqb r.source v ≡ out
           → Kept (cond into (note r.source true (listed x)) (cond out (note r.target false (listed x)) (listed x)))
-          (cond into (cond out Choice (meet_node x r.source true)) (cond out (meet_node x r.target false) x))
+          (cond into (cond out None (meet_node x r.source true)) (cond out (meet_node x r.target false) (Some x)))
       go true true e f = self_loop r.source (listed x) (eqb-true _ _ f)
       go true false e f = kept_note x h r.source true (eqb-false _ _ f)
       go false true e f = kept_note x h r.target false (eqb-false _ _ e)
-      go false false e f = kept x h
+      go false false e f = (refl, h)
 
   -- ---- what is decided, and what is left at the end
 
@@ -119,7 +105,6 @@ module _ (v : ℕ) where
   clean_open Nobody h = refl
   clean_open (One a) h = rw (plain_no v h)
   clean_open (Two a b) h = rw (plain_no v h.0, plain_no v h.1)
-  clean_open Choice h = absurd h
 
   -- the test at the end is the definition's
   through_is : (x : Neighbours) → Clean x → is_through x ≡ passes_through v (listed x)
@@ -130,7 +115,6 @@ module _ (v : ℕ) where
       let ins : b.ins + 0 ≡ b.ins = omega arith in
       let outs : b.outs + 0 ≡ b.outs = omega arith in
       rw (ins, outs, plain_no v h.0, plain_no v h.1) (sym (and-true _))
-  through_is Choice h = absurd h
 
 -- ---- the loop
 
@@ -176,28 +160,24 @@ module _ {t : Sheet} {v e : ℕ} where
         same = rw all;
       }
 
-  module _ {i source target : ℕ} {x y : Neighbours} (s : Seen t v e i x) (h : i < e) (p : source ≡ (road_at t i).source) (q : target ≡ (road_at t i).target) (k : y ≡ meets_road v x source target) where
-    road_kept : Kept v (next t v e i (listed x)) y
-    road_kept = subst (Kept v (next t v e i (listed x))) (sym (k ∙ rw (p, q))) (kept_road v x s.clean (road_at t i))
+  module _ {i source target : ℕ} {x : Neighbours} {o : Option Neighbours} (s : Seen t v e i x) (h : i < e) (p : source ≡ (road_at t i).source) (q : target ≡ (road_at t i).target) (k : o ≡ meets_road v x source target) where
+    road_kept : {m : Option Neighbours} → o ≡ m → Kept v (next t v e i (listed x)) m
+    road_kept w = subst (Kept v (next t v e i (listed x))) (sym (sym w ∙ k ∙ rw (p, q))) (kept_road v x s.clean (road_at t i))
 
     -- a road that is a choice decides it
-    module _ (w : has_choice y ≡ true) where
-      pub seen_choice : true ≡ is_valid_node t v
-      seen_choice = go (is_valid_node t v) refl
-        where
-          go : (b : Bool) → is_valid_node t v ≡ b → true ≡ b
-          go true f = refl
-          go false f = absurd (road_kept.choice w (open_fold v t _ _ (subst (Open v) (sym s.same ∙ after_road t v e i (listed x) h) (open_around t v e f))))
-
-      pub seen_read : i + 1 ≡ roads_read t v
-      seen_read =
-          let one : left t v e i (listed x) ≡ 1 = left_road t v e i (listed x) h ∙ rw (open_decided v _ (road_kept.choice w)) in
-          omega (arith, one, s.count)
+    pub seen_choice : o ≡ None → (true ≡ is_valid_node t v) × (i + 1 ≡ roads_read t v)
+    seen_choice w =
+        let one : left t v e i (listed x) ≡ 1 = left_road t v e i (listed x) h ∙ rw (open_decided v _ (road_kept w)) in
+        (go (is_valid_node t v) refl, omega (arith, one, s.count))
+      where
+        go : (b : Bool) → is_valid_node t v ≡ b → true ≡ b
+        go true f = refl
+        go false f = absurd (road_kept w (open_fold v t _ _ (subst (Open v) (sym s.same ∙ after_road t v e i (listed x) h) (open_around t v e f))))
 
     -- after any other the walk goes on
-    pub seen_step : has_choice y ≡ false → Seen t v e (i + 1) y
-    seen_step w =
-        let m = road_kept.same w in
+    pub seen_step : {y : Neighbours} → o ≡ Some y → Seen t v e (i + 1) y
+    seen_step {y} w =
+        let m = road_kept w in
         let unsettled : decided v (next t v e i (listed x)) ≡ false = ap (decided v) (sym m.0) ∙ clean_open v y m.1 in
         let more : left t v e i (listed x) ≡ suc (left t v e (i + 1) (next t v e i (listed x))) = left_road t v e i (listed x) h ∙ rw unsettled in
         record {
@@ -207,15 +187,9 @@ module _ {t : Sheet} {v e : ℕ} where
         }
 
   -- after the last road
-  module _ {i : ℕ} {x : Neighbours} (s : Seen t v e i x) (h : e ≤ i) where
-    pub seen_end : {b : Bool} → b ≡ is_through x → not b ≡ is_valid_node t v
-    unfolding is_valid_node fold
-    seen_end k =
-        let whole : listed x ≡ around t v = ap (fold (λ xs r. meet_road v xs (road_at t r)) (listed x)) (sym (run_end (λ r. r) h)) ∙ s.same in
-        ap not (k ∙ through_is v x s.clean ∙ ap (passes_through v) whole)
-
-    pub seen_all : i ≡ roads_read t v
-    unfolding reads
-    seen_all =
-        let none : left t v e i (listed x) ≡ 0 = ap (reads t v (listed x)) (run_end (λ r. r) h) in
-        omega (arith, none, s.count)
+  pub seen_end : {i : ℕ} {x : Neighbours} {b : Bool} → Seen t v e i x → e ≤ i → i ≤ e → b ≡ is_through x → (not b ≡ is_valid_node t v) × (e ≡ roads_read t v)
+  unfolding is_valid_node fold reads
+  seen_end {i} {x} s h g k =
+      let whole : listed x ≡ around t v = ap (fold (λ xs r. meet_road v xs (road_at t r)) (listed x)) (sym (run_end (λ r. r) h)) ∙ s.same in
+      let none : left t v e i (listed x) ≡ 0 = ap (reads t v (listed x)) (run_end (λ r. r) h) in
+      (ap not (k ∙ through_is v x s.clean ∙ ap (passes_through v) whole), omega (arith, none, s.count))

@@ -1,7 +1,5 @@
 pub mod Comparing
 pub mod Pairs
-pub mod Classes
-pub mod Forms
 pub mod Signs
 pub mod DrawingProof
 pub mod Runs

@@ -2,4 +2,3 @@
 pub mod Graph
 pub mod Neighbours
 pub mod Drawing
-pub mod Forms

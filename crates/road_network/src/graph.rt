@@ -1,21 +1,26 @@
 // Nodes that give no choice, and the ways on and back that they force.
-ghost use Rattle.std.specs.Prelude.{◌≡◌, false, ◌<◌};
-ghost use Rattle.model.specs.Judge.{WellFormed};
-ghost use Rattle.model.specs.Sheet.{sheet_of};
-ghost use Rattle.model.specs.Ends.{grown, is_valid_node, way_on, way_back, forced_continuation, forced_predecessor};
-ghost use Rattle.road_network.specs.Graph.{roads_read, is_fork, Forces};
-ghost use Rattle.road_network.specs.Neighbours.{is_second, new_neighbour, meet_node, meets_road, Few, is_through, has_choice};
+ghost use Rattle.std.specs.Prelude.{◌≡◌, true, false, Bool, ◌<◌};
+ghost use Rattle.sheet.specs.Contents.{contents};
+ghost use Rattle.model.specs.Ends.{is_valid_node, way_on, way_back, way};
+ghost use Rattle.road_network.specs.Graph.{roads_read, is_fork, Forces, first_node, first_way};
+ghost use Rattle.road_network.specs.Neighbours.{inward, one_more, new_neighbour, meet_node, meets_road, Few, is_through};
 
-use model::{Counts, Neighbour};
-use sheet::roads;
+use model::Neighbour;
+use sheet::Sheet;
 
-// The neighbours of a node that are met so far, or that there is a choice.
+// The neighbours of a node that are met so far, where none is a choice.
 #[derive(Clone, Copy)]
 enum Neighbours {
     Nobody,
     One(Neighbour),
     Two(Neighbour, Neighbour),
-    Choice,
+}
+
+// Whether a node's road comes in from the neighbour or goes out to it.
+#[derive(Clone, Copy)]
+enum Side {
+    In,
+    Out,
 }
 
 // Whether a node is valid, and how many roads the test read.
@@ -25,238 +30,193 @@ pub struct Tested {
     pub read: usize,
 }
 
-// The road that a node forces, by its number, or none.
-#[derive(Clone, Copy)]
-pub enum Forced {
-    Way(usize),
-    Free,
-}
-
-// Whether one road more this way is the second.
-fn is_second(a: Neighbour, inward: bool) -> bool
-    ensures { result ≡ is_second inward a }
-{
-    if inward { 0 < a.ins } else { 0 < a.outs }
-}
-
-// The neighbour with one road more.
-fn grown(a: Neighbour, inward: bool) -> Neighbour
-    requires { is_second inward a ≡ false }
-    ensures { result ≡ grown inward a }
-{
-    if inward {
-        let ins = a.ins + 1;
-        return Neighbour {
-            node: a.node,
-            ins,
-            outs: a.outs,
-        };
-    }
-    let outs = a.outs + 1;
-    Neighbour {
-        node: a.node,
-        ins: a.ins,
-        outs,
-    }
-}
-
 // A neighbour at its first road.
-fn new_neighbour(v: usize, inward: bool) -> Neighbour
-    ensures { result ≡ new_neighbour v inward }
+#[tactic(auto, unfolding(model::specs::Ends::grown))]
+fn new_neighbour(v: usize, side: Side) -> Neighbour
+    ensures { result ≡ new_neighbour v (inward side) }
 {
-    grown(
-        Neighbour {
+    match side {
+        Side::In => Neighbour {
             node: v,
-            ins: 0,
+            ins: 1,
             outs: 0,
         },
-        inward,
-    )
-}
-
-// One road more, in from v or out to it.
-fn meet_node(known: Neighbours, v: usize, inward: bool) -> Neighbours
-    ensures { result ≡ meet_node known v inward }
-{
-    match known {
-        Neighbours::Nobody => Neighbours::One(new_neighbour(v, inward)),
-        Neighbours::One(a) => {
-            if a.node != v {
-                return Neighbours::Two(a, new_neighbour(v, inward));
-            }
-            if is_second(a, inward) {
-                return Neighbours::Choice;
-            }
-            Neighbours::One(grown(a, inward))
-        }
-        Neighbours::Two(a, b) => {
-            if a.node == v {
-                if is_second(a, inward) {
-                    return Neighbours::Choice;
-                }
-                return Neighbours::Two(grown(a, inward), b);
-            }
-            if b.node == v {
-                if is_second(b, inward) {
-                    return Neighbours::Choice;
-                }
-                return Neighbours::Two(a, grown(b, inward));
-            }
-            Neighbours::Choice // a third neighbour
-        }
-        Neighbours::Choice => Neighbours::Choice,
+        Side::Out => Neighbour {
+            node: v,
+            ins: 0,
+            outs: 1,
+        },
     }
 }
 
-// One road more, from source to target, seen from node v.
-fn meet_road(v: usize, known: Neighbours, source: usize, target: usize) -> Neighbours
+// The neighbour with one road more, unless it is the second on that side.
+#[tactic(auto, unfolding(crate::specs::Neighbours::one_more, crate::specs::Neighbours::is_second, model::specs::Ends::grown))]
+fn one_more(a: Neighbour, side: Side) -> Option<Neighbour>
+    ensures { result ≡ one_more (inward side) a }
+{
+    match side {
+        Side::In if a.ins == 0 => Some(Neighbour { ins: 1, ..a }),
+        Side::Out if a.outs == 0 => Some(Neighbour { outs: 1, ..a }),
+        _ => None,
+    }
+}
+
+// One road more, in from v or out to it, unless that is a choice.
+#[tactic(auto, unfolding(crate::specs::Neighbours::meet_node))]
+fn meet_node(known: Neighbours, v: usize, side: Side) -> Option<Neighbours>
+    ensures { result ≡ meet_node known v (inward side) }
+{
+    let met = match known {
+        Neighbours::Nobody => Neighbours::One(new_neighbour(v, side)),
+        Neighbours::One(a) if a.node == v => Neighbours::One(one_more(a, side)?),
+        Neighbours::One(a) => Neighbours::Two(a, new_neighbour(v, side)),
+        Neighbours::Two(a, b) if a.node == v => Neighbours::Two(one_more(a, side)?, b),
+        Neighbours::Two(a, b) if b.node == v => Neighbours::Two(a, one_more(b, side)?),
+        Neighbours::Two(_, _) => return None, // a third neighbour
+    };
+    Some(met)
+}
+
+// One road more, from source to target, seen from node v, unless it is a choice.
+#[tactic(auto, unfolding(crate::specs::Neighbours::meets_road))]
+fn meet_road(v: usize, known: Neighbours, source: usize, target: usize) -> Option<Neighbours>
     ensures { result ≡ meets_road v known source target }
 {
-    if target == v {
-        if source == v {
-            return Neighbours::Choice; // a self-loop
-        }
-        return meet_node(known, source, true);
-    }
-    if source == v {
-        return meet_node(known, target, false);
-    }
-    known
-}
-
-// Whether a choice was met.
-fn has_choice(known: Neighbours) -> bool
-    ensures { result ≡ has_choice known }
-{
-    match known {
-        Neighbours::Choice => true,
-        Neighbours::Nobody => false,
-        Neighbours::One(_) => false,
-        Neighbours::Two(_, _) => false,
+    match (source == v, target == v) {
+        (true, true) => None, // a self-loop
+        (false, true) => meet_node(known, source, Side::In),
+        (true, false) => meet_node(known, target, Side::Out),
+        (false, false) => Some(known),
     }
 }
 
 // Whether the neighbours are those of a way through: two, and as many roads in as out.
+#[tactic(auto, unfolding(crate::specs::Neighbours::is_through))]
 fn is_through(known: Neighbours) -> bool
     requires { Few known }
     ensures { result ≡ is_through known }
 {
-    match known {
-        Neighbours::Two(a, b) => a.ins + b.ins == a.outs + b.outs,
-        Neighbours::Nobody => false,
-        Neighbours::One(_) => false,
-        Neighbours::Choice => false,
-    }
+    matches!(known, Neighbours::Two(a, b) if a.ins + b.ins == a.outs + b.outs)
 }
 
 // Whether node v is valid, by one walk over the roads by rising number. A self-loop, a third neighbour or a second road one way to a neighbour ends it.
-pub fn test_node(s: &[u8], c: Counts, v: usize) -> Tested
-    requires { WellFormed s.now c }
-    ensures { (result.valid ≡ is_valid_node (sheet_of s.now c) v) × (result.read ≡ roads_read (sheet_of s.now c) v) }
+pub fn test_node(sheet: &Sheet<'_>, v: usize) -> Tested
+    ensures { (result.valid ≡ is_valid_node (contents sheet.now) v) × (result.read ≡ roads_read (contents sheet.now) v) }
 {
-    let e = c.e;
+    let e = sheet.counts.e;
     let mut known = Neighbours::Nobody;
-    let mut i = 0;
-    while i < e {
-        let source = roads::source(s, c, i);
-        let target = roads::target(s, c, i);
-        known = meet_road(v, known, source, target);
-        i += 1;
-        if has_choice(known) {
+    for i in 0..e {
+        let source = sheet.source(i);
+        let target = sheet.target(i);
+        let Some(met) = meet_road(v, known, source, target) else {
             return Tested {
                 valid: true,
-                read: i,
+                read: i + 1,
             };
-        }
+        };
+        known = met;
     }
     Tested {
         valid: !is_through(known),
-        read: i,
+        read: e,
     }
 }
 
 // Whether more than two roads leave node v. Such a node is valid: a way through has at most two.
-pub fn is_fork(s: &[u8], c: Counts, v: usize) -> bool
-    requires { WellFormed s.now c × (v < c.n) }
-    ensures { result ≡ is_fork (sheet_of s.now c) v }
+#[tactic(auto, using(crate::proofs::Forks::fork_is, sheet::proofs::Parts::starts_rise))]
+pub fn is_fork(sheet: &Sheet<'_>, v: usize) -> bool
+    requires { v < sheet.now.counts.n }
+    ensures { result ≡ is_fork (contents sheet.now) v }
 {
-    let from = roads::start(s, c, v);
-    let end = roads::start(s, c, v + 1);
+    let from = sheet.start(v);
+    let end = sheet.start(v + 1);
     2 < end - from
 }
 
 // Whether node v is more than a place on the way through: a junction, an end, a merge or a split. A fork needs no walk over the roads.
-pub fn is_valid_node(s: &[u8], c: Counts, v: usize) -> bool
-    requires { WellFormed s.now c × (v < c.n) }
-    ensures { result ≡ is_valid_node (sheet_of s.now c) v }
+#[tactic(auto, using(crate::proofs::Forks::fork_valid))]
+pub fn is_valid_node(sheet: &Sheet<'_>, v: usize) -> bool
+    requires { v < sheet.now.counts.n }
+    ensures { result ≡ is_valid_node (contents sheet.now) v }
 {
-    if is_fork(s, c, v) {
-        return true;
-    }
-    let tested = test_node(s, c, v);
-    tested.valid
+    is_fork(sheet, v) || test_node(sheet, v).valid
 }
 
 // The way on from the end of road r that is no U-turn, whatever choice the node gives.
-pub fn way_on(s: &[u8], c: Counts, r: usize) -> Forced
-    requires { WellFormed s.now c × (r < c.e) }
-    ensures { Forces (way_on (sheet_of s.now c) r) c.e result }
+pub fn way_on(sheet: &Sheet<'_>, r: usize) -> Option<usize>
+    requires { r < sheet.now.counts.e }
+    ensures { Forces (way_on (contents sheet.now) r) sheet.now.counts.e result }
 {
-    let v = roads::target(s, c, r);
-    let from = roads::source(s, c, r);
-    let mut j = roads::start(s, c, v);
-    let end = roads::start(s, c, v + 1);
-    while j < end {
-        let x = roads::entry(s, c, j);
-        let onward = roads::target(s, c, x) != from;
-        if onward {
-            return Forced::Way(x);
-        }
-        j += 1;
-    }
-    Forced::Free
+    let v = sheet.target(r);
+    let from = sheet.source(r);
+    (sheet.start(v)..sheet.start(v + 1))
+        .map(|j| sheet.entry(j))
+        .find(|&x| sheet.target(x) != from)
 }
 
 // The way into the start of road r that is no U-turn, whatever choice the node gives.
-pub fn way_back(s: &[u8], c: Counts, r: usize) -> Forced
-    requires { WellFormed s.now c × (r < c.e) }
-    ensures { Forces (way_back (sheet_of s.now c) r) c.e result }
+pub fn way_back(sheet: &Sheet<'_>, r: usize) -> Option<usize>
+    requires { r < sheet.now.counts.e }
+    ensures { Forces (way_back (contents sheet.now) r) sheet.now.counts.e result }
 {
-    let v = roads::source(s, c, r);
-    let to = roads::target(s, c, r);
-    let e = c.e;
-    let mut x = 0;
-    while x < e {
-        if roads::target(s, c, x) == v {
-            if roads::source(s, c, x) != to {
-                return Forced::Way(x);
-            }
+    let v = sheet.source(r);
+    let to = sheet.target(r);
+    (0..sheet.counts.e).find(|&x| sheet.target(x) == v && sheet.source(x) != to)
+}
+
+// A direction along the roads.
+pub trait Direction {
+    ghost forward: { Bool };
+
+    // The node at that end of road r.
+    fn node(sheet: &Sheet<'_>, r: usize) -> usize
+        requires { r < sheet.now.counts.e }
+        ensures { (result ≡ first_node (contents sheet.now) forward r) × (result < sheet.now.counts.n) };
+
+    // The way from there that is no U-turn, whatever choice the node gives.
+    fn way(sheet: &Sheet<'_>, r: usize) -> Option<usize>
+        requires { r < sheet.now.counts.e }
+        ensures { Forces (first_way (contents sheet.now) forward r) sheet.now.counts.e result };
+
+    // That way, where the node gives no choice.
+    #[tactic(auto, using(crate::proofs::Ways::way_is))]
+    final fn forced(sheet: &Sheet<'_>, r: usize) -> Option<usize>
+        requires { r < sheet.now.counts.e }
+        ensures { Forces (way (contents sheet.now) forward r) sheet.now.counts.e result }
+    {
+        if is_valid_node(sheet, Self::node(sheet, r)) {
+            return None;
         }
-        x += 1;
+        Self::way(sheet, r)
     }
-    Forced::Free
 }
 
-// The way on from the end of road r that is no U-turn, where the node gives no choice.
-pub fn forced_continuation(s: &[u8], c: Counts, r: usize) -> Forced
-    requires { WellFormed s.now c × (r < c.e) }
-    ensures { Forces (forced_continuation (sheet_of s.now c) r) c.e result }
-{
-    let v = roads::target(s, c, r);
-    if is_valid_node(s, c, v) {
-        return Forced::Free;
+// On from a road's end: what it forces is its forced_continuation.
+pub struct Forward;
+
+impl Direction for Forward {
+    ghost forward = { true };
+
+    fn node(sheet: &Sheet<'_>, r: usize) -> usize {
+        sheet.target(r)
     }
-    way_on(s, c, r)
+
+    fn way(sheet: &Sheet<'_>, r: usize) -> Option<usize> {
+        way_on(sheet, r)
+    }
 }
 
-// The way into the start of road r that is no U-turn, where the node gives no choice.
-pub fn forced_predecessor(s: &[u8], c: Counts, r: usize) -> Forced
-    requires { WellFormed s.now c × (r < c.e) }
-    ensures { Forces (forced_predecessor (sheet_of s.now c) r) c.e result }
-{
-    let v = roads::source(s, c, r);
-    if is_valid_node(s, c, v) {
-        return Forced::Free;
+// Back from a road's start: what it forces is its forced_predecessor.
+pub struct Backward;
+
+impl Direction for Backward {
+    ghost forward = { false };
+
+    fn node(sheet: &Sheet<'_>, r: usize) -> usize {
+        sheet.source(r)
     }
-    way_back(s, c, r)
+
+    fn way(sheet: &Sheet<'_>, r: usize) -> Option<usize> {
+        way_back(sheet, r)
+    }
 }

@@ -1,23 +1,20 @@
 -- A text with room stands whole at the buffer's front; the text of 256 roads always has room.
 use Prim.Native.Nat.{ℕ, ◌≤◌, ◌<◌}
 use native.Mathlib.Omega.{arith}
-use mathlib.Core.Path.{◌≡◌, sym, ap, subst, ◌∙◌}
+use mathlib.Core.Path.{◌≡◌, sym, ap, ◌∙◌}
 use mathlib.Core.Bool.{true}
 use mathlib.Core.List.{List, ◌++◌}
 use lib.Dec.{leb}
-use lib.Ieee.{Float}
 use lib.ListN.{length, drop, length-append}
 use lib.Seq.{take-append_seam}
 use borrow.Author.Tests.{le-leb, lt-ltb, le-ltb}
+use Rattle.std.specs.Prelude.{Option, Some, IsSome}
+use Rattle.std.proofs.lemmas.Option.{same_Some}
 use Rattle.model.specs.Call.{Decoded, decode}
-use Rattle.answers.specs.declared.Answer.{Answer}
-use Rattle.answers.specs.Room.{answer_of, lists, decoded}
-use Rattle.text.specs.declared.Written.{Written}
-use Rattle.text.specs.declared.Written.TheVariants as W
-use Rattle.text.specs.Text.{ascii, spaced, line, text, text_of, large}
+use Rattle.text.specs.Text.{ascii, spaced, line, text_of, large}
 use Rattle.text.specs.Buffer.{told, filled}
 use Rattle.text.proofs.Lengths.{text_theorem}
-use Rattle.roadlist.specs.Listing.{areas, listing, Listed, size_of}
+use Rattle.roadlist.specs.Listing.{areas, listing, Listed}
 
 at_front : (t rest : List ℕ) → Listed t (t ++ rest) (length t)
 at_front t rest = record {
@@ -26,28 +23,25 @@ at_front t rest = record {
   is = take-append_seam t rest;
 }
 
-pub listed_text : (t before after : List ℕ) (w : Written) → w ≡ told t before → after ≡ filled t before → length t ≤ length before → Listed t after (size_of w)
-unfolding size_of
-listed_text t before after w e f h =
-    let fits : leb (length t) (length before) ≡ true = le-leb (length t) (length before) h in
-    let bytes : w ≡ W.Bytes (length t) = e ∙ rw fits in
-    let front : after ≡ t ++ drop (length t) before = f ∙ rw fits in
-    rw (bytes, front) (at_front t (drop (length t) before))
+module _ (t before : List ℕ) (room : length t ≤ length before) where
+  fits : leb (length t) (length before) ≡ true
+  fits = le-leb (length t) (length before) room
 
-pub listed_large : (before after : List ℕ) (w : Written) → w ≡ told large before → after ≡ filled large before → 11264 ≤ length before → Listed large after (size_of w)
+  pub is_told : (o : Option ℕ) → o ≡ told t before → IsSome o
+  is_told o e = rw (e, fits)
+
+  pub listed : (o : Option ℕ) (after : List ℕ) (n : ℕ) → o ≡ told t before → after ≡ filled t before → o ≡ Some n → Listed t after n
+  listed o after n e f some =
+      let front : after ≡ t ++ drop (length t) before = f ∙ rw fits in
+      let counted : n ≡ length t = same_Some n (length t) (sym some ∙ e ∙ rw fits) in
+      rw (front, counted) (at_front t (drop (length t) before))
+
+pub room_for_large : (n : ℕ) → 11264 ≤ n → length large ≤ n
 unfolding large line spaced ascii
-listed_large before after w e f h = listed_text large before after w e f (omega arith)
+room_for_large n h = omega arith
 
-pub listed_decoded : (s : List ℕ) (a : Answer) (ids : List ℕ) (lengths : List Float) (before after : List ℕ) (w : Written)
-    → decoded a ids lengths ≡ decode s areas
-    → length ids ≡ 256
-    → w ≡ told (text (answer_of a) (lists ids lengths)) before
-    → after ≡ filled (text (answer_of a) (lists ids lengths)) before
-    → 11264 ≤ length before
-    → Listed (text_of (decode s areas)) after (size_of w)
-listed_decoded s a ids lengths before after w d n e f h =
-    subst (λ (x : Decoded). Listed (text_of x) after (size_of w)) d
-    (listed_text (text (answer_of a) (lists ids lengths)) before after w e f (omega (arith, text_theorem (answer_of a) (lists ids lengths))))
+pub room_for_text : (d : Decoded) (n : ℕ) → length d.lists.ids ≡ 256 → 11264 ≤ n → length (text_of d) ≤ n
+room_for_text d n e h = omega (arith, text_theorem d.answer d.lists)
 
 -- the two cases of what is printed
 pub listing_large : (s : List ℕ) → 49152 < length s → listing s ≡ large

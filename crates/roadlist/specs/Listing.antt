@@ -2,8 +2,6 @@
 use Rattle.std.specs.Prelude.{ℕ, ◌≤◌, ◌≡◌, cond, List, ltb, length, take, replicate}
 use Rattle.model.specs.Numbers.{f0}
 use Rattle.model.specs.Call.{Lent, decode}
-use Rattle.text.specs.declared.Written.{Written}
-use Rattle.text.specs.declared.Written.TheVariants as W
 use Rattle.text.specs.Text.{text_of, large}
 
 -- what it lends
@@ -19,8 +17,3 @@ pub record Listed (text buffer : List ℕ) (n : ℕ) : Type 0 where
   pub within : n ≤ length buffer
   pub counted : n ≡ length (take n buffer)
   pub is : take n buffer ≡ text
-
--- how many bytes were written
-unfoldable pub size_of : Written → ℕ
-size_of (W.Bytes n) = n
-size_of W.Short = 0

@@ -1,19 +1,18 @@
 // The list program: reads a sheet from standard input and prints the text of its answer, from one buffer.
 #![tactic(auto)]
 
-ghost use Rattle.std.specs.Prelude.{◌≡◌, ◌≤◌, length, IfOk};
+ghost use Rattle.std.specs.Prelude.{◌≤◌, length};
 ghost use Rattle.model.specs.Call.{decode};
 ghost use Rattle.text.specs.Text.{text_of};
-ghost use Rattle.roadlist.specs.Listing.{areas, listing, Listed, size_of};
+ghost use Rattle.roadlist.specs.Listing.{areas, listing, Listed};
 
 use std::io;
 use std::io::{Read, Write};
-use text::Written;
 
 // The text of one call, with the areas that this program lends.
-fn decode_text(sheet: &[u8], out: &mut [u8]) -> Written
+fn decode_text(sheet: &[u8], out: &mut [u8]) -> usize
     requires { 11264 ≤ length out.old }
-    ensures { Listed (text_of (decode sheet.now areas)) out.new (size_of result) }
+    ensures { Listed (text_of (decode sheet.now areas)) out.new result }
 {
     let mut labels = [0.0; 128];
     let mut came_from = [0usize; 64];
@@ -34,17 +33,7 @@ fn decode_text(sheet: &[u8], out: &mut [u8]) -> Written
         &mut ids,
         &mut lengths,
     );
-    text::write_text(out, answer, &ids, &lengths)
-}
-
-// How many bytes were written: none where they have no room, which is never so here.
-fn size(w: Written) -> usize
-    ensures { result ≡ size_of w }
-{
-    match w {
-        Written::Bytes(n) => n,
-        Written::Short => 0,
-    }
+    text::write_text(out, answer, &ids, &lengths).unwrap()
 }
 
 // Everything that is printed, at the front of `out`.
@@ -54,34 +43,17 @@ fn list(sheet: &[u8], out: &mut [u8]) -> usize
 {
     let too_long = 49152 < sheet.len();
     if too_long {
-        let large = text::write_large(out);
-        size(large)
+        text::write_large(out).unwrap()
     } else {
-        let told = decode_text(sheet, out);
-        size(told)
+        decode_text(sheet, out)
     }
-}
-
-// Reads until `buf` is full or the input ends, and answers how many bytes came: they stand at its front.
-fn read_full<R: Read>(from: &mut R, buf: &mut [u8]) -> io::Result<usize>
-    ensures { IfOk result (λ n. n ≤ length buf.new) }
-{
-    let mut done = 0;
-    while done < buf.len() {
-        let n = from.read(&mut buf[done..])?;
-        if n == 0 {
-            break;
-        }
-        done += n;
-    }
-    Ok(done)
 }
 
 // 48 KiB are read and one byte more, which shows a larger sheet. The longest text has 11,182 bytes.
 fn main(rt: HostRuntime) -> io::Result<()> {
-    let mut sheet = [0u8; 49153];
+    let mut sheet = Vec::new(rt.alloc());
+    rt.stdin().take(49153).read_to_end(&mut sheet)?;
     let mut out = [0u8; 11264];
-    let n = read_full(&mut rt.stdin(), &mut sheet)?;
-    let size = list(&sheet[..n], &mut out);
+    let size = list(&sheet, &mut out);
     rt.stdout().write_all(&out[..size])
 }

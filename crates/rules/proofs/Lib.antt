@@ -1,4 +1,2 @@
-pub mod Fitting
-pub mod BestLaws
-pub mod Closeness
+pub mod Alone
 pub mod OneRoad

@@ -1,26 +1,36 @@
 -- What the code's records stand for. The roads between the terminal ones of a path are what its search finds.
-use Rattle.std.specs.Prelude.{◌≡◌, List, ◌++◌, map, take}
-use Rattle.std.proofs.Math.Option.{Option}
+use Rattle.std.specs.Prelude.{◌≡◌, ◌<◌, ℕ, length, get_or, Option, Some, None, List, [], ◌∷◌, ◌++◌, map, take}
+use Rattle.std.proofs.Math.Option as definition
+use Rattle.model.specs.declared.Counts.{Counts}
 use Rattle.model.specs.declared.Road.{Road}
-use Rattle.model.specs.Lists.{when}
-use Rattle.model.specs.Numbers.{f0}
 use Rattle.model.specs.Search.{none_found}
 use Rattle.model.specs.Legs as legs
-use Rattle.model.specs.Legs.{EdgeCoverage, Scored, Pair, MiddleSearch, pair, terminal, whole}
-use Rattle.candidates.specs.declared.candidate.Candidate.{Candidate}
-use Rattle.candidates.specs.Found.{on}
+use Rattle.model.specs.Legs.{EdgeCoverage, MiddleSearch, pair, whole}
+use Rattle.model.specs.Candidates.{Candidate}
+use Rattle.candidates.specs.declared.candidate.Candidate as code
+use Rattle.candidates.specs.Found.{on, no_item}
 use Rattle.search.specs.Answers.{roads_in}
+use Rattle.rules.specs.declared.Placed.{Placed}
+use Rattle.rules.specs.declared.Pair.{Pair}
 use Rattle.rules.specs.declared.TerminalEdge.{TerminalEdge}
 use Rattle.rules.specs.declared.Middle.{Middle}
 use Rattle.rules.specs.declared.PathResult.{PathResult}
-use Rattle.rules.specs.declared.Best.{Best}
+use Rattle.rules.specs.declared.Scored.{Scored}
 
--- the pair of two candidates, each with its road
-abbrev pub pair_as : Candidate → Road → Candidate → Road → Pair
-pair_as start first end last = pair (on first start) (on last end)
+abbrev pub placed : Placed → Candidate
+placed x = on x.road x.candidate
 
-abbrev pub terminal_of : TerminalEdge → List EdgeCoverage
-terminal_of p = terminal p.kept p.road p.coverage_m
+abbrev pub pair_of : Pair → legs.Pair
+pair_of p = pair (placed p.start) (placed p.end)
+
+-- a way between its roads leads from one of the nodes to one of them
+abbrev pub Within : ℕ → Pair → Type 0
+Within nodes p = (p.start.road.target < nodes) × (p.end.road.source < nodes)
+
+-- a terminal road that is kept
+abbrev pub terminal_of : Option TerminalEdge → List EdgeCoverage
+terminal_of None = []
+terminal_of (Some x) = record { road = x.road; coverage_m = x.coverage_m } ∷ []
 
 -- the path over these roads between its terminal ones
 abbrev pub with_middle : PathResult → List Road → legs.PathResult
@@ -31,9 +41,6 @@ with_middle r middle = record {
   end_offset_m = r.end_offset_m;
 }
 
-abbrev pub no_middle : Middle
-no_middle = record { start = 0; goal = 0; bound = f0; count = 0 }
-
 -- its search, once more
 unfoldable pub middle_in : MiddleSearch → Middle → List Road
 middle_in search m = take m.count (roads_in (search m.start m.goal m.bound))
@@ -41,9 +48,17 @@ middle_in search m = take m.count (roads_in (search m.start m.goal m.bound))
 abbrev pub no_search : MiddleSearch
 no_search start goal bound = none_found
 
-unfoldable pub best_of : MiddleSearch → Best → Option Scored
-best_of search b = when b.found record { path = with_middle b.path (middle_in search b.path.middle); score = b.score }
+abbrev pub scored_of : MiddleSearch → Scored → legs.Scored
+scored_of search s = record { path = with_middle s.path (middle_in search s.path.middle); score = s.score }
+
+abbrev pub best_of : MiddleSearch → Option Scored → definition.Option legs.Scored
+best_of search None = definition.none
+best_of search (Some s) = definition.some (scored_of search s)
 
 -- b stands for s, whatever a search finds
-abbrev pub BestIs : Best → Option Scored → Type 0
+abbrev pub BestIs : Option Scored → definition.Option legs.Scored → Type 0
 BestIs b s = (search : MiddleSearch) → best_of search b ≡ s
+
+-- candidates on roads with numbers
+abbrev pub Named : Counts → List code.Candidate → Type 0
+Named c xs = (k : ℕ) → k < length xs → (get_or xs k no_item).edge_idx < c.e

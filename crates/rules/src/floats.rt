@@ -1,4 +1,6 @@
-// The greater and the smaller of two f64.
+// The greater and the smaller of two f64. Not std's: of two that compare equal, as 0 and -0, those give either, and the definition names one.
+#![tactic(auto, unfolding(model::specs::Numbers::fmin, model::specs::Numbers::fmax))]
+
 ghost use Rattle.std.specs.Prelude.{◌≡◌};
 ghost use Rattle.model.specs.Numbers.{fmin, fmax};
 

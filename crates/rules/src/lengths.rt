@@ -1,119 +1,116 @@
 // Lengths, offsets and scores of the paths between a start and an end candidate.
+#![tactic(auto, unfolding(model::specs::Legs::score_of, model::specs::Legs::excellent, model::specs::Legs::effective_min, model::specs::Legs::effective_max, model::specs::Legs::same_edge_length, model::specs::Legs::fits_same_edge, model::specs::Legs::path_cost, model::specs::Legs::fits_path, model::specs::Legs::stays, model::specs::Legs::middle_max))]
+
 ghost use Rattle.std.specs.Prelude.{◌≡◌};
 ghost use Rattle.model.specs.Legs.{score_of, excellent, effective_min, effective_max, same_edge_length, fits_same_edge, start_offset, end_offset, path_cost, fits_path, stays, middle_max};
-ghost use Rattle.candidates.specs.Found.{on};
-ghost use Rattle.rules.specs.Code.{pair_as};
+ghost use Rattle.rules.specs.Code.{placed, pair_of};
 
-use crate::floats;
-use candidates::candidate::Candidate;
-use model::{Limits, Road};
-use road_network::spatial;
+use crate::{Pair, Placed, floats};
+use model::Limits;
 
-// The metres from the start of the candidate's road to its point.
-pub fn start_offset(x: Candidate, r: Road) -> f64
-    ensures { result ≡ start_offset (on r x) }
-{
-    r.length_m * x.projection_fraction
+impl Placed {
+    // The metres from the start of the candidate's road to its point.
+    pub fn start_offset(&self) -> f64
+        ensures { result ≡ start_offset (placed self.now) }
+    {
+        self.road.length_m * self.candidate.projection_fraction
+    }
+
+    // The metres from its point to the end of its road.
+    pub fn end_offset(&self) -> f64
+        ensures { result ≡ end_offset (placed self.now) }
+    {
+        self.road.length_m * (1.0 - self.candidate.projection_fraction)
+    }
 }
 
-// The metres from its point to the end of its road.
-pub fn end_offset(x: Candidate, r: Road) -> f64
-    ensures { result ≡ end_offset (on r x) }
-{
-    r.length_m * (1.0 - x.projection_fraction)
-}
-
-// The candidates' scores and the length penalty of a path with this total length.
-pub fn score_of(
-    b: Limits,
-    start: Candidate,
-    first: Road,
-    end: Candidate,
-    last: Road,
-    total: f64,
-) -> f64
-    ensures { result ≡ score_of b (pair_as start first end last) total }
-{
-    let difference = spatial::abs(total - b.dnp);
-    let divisor = floats::max(b.dnp, 1.0);
-    start.score + end.score + difference / divisor
+impl Pair {
+    // The candidates' scores and the length penalty of a path with this total length.
+    #[tactic(auto, using(road_network::proofs::Signs::abs_is), unfolding(model::specs::Legs::score_of))]
+    pub fn score_of(&self, limits: Limits, total: f64) -> f64
+        ensures { result ≡ score_of limits (pair_of self.now) total }
+    {
+        let difference = (total - limits.dnp).abs();
+        let divisor = floats::max(limits.dnp, 1.0);
+        self.start.candidate.score + self.end.candidate.score + difference / divisor
+    }
 }
 
 // ---- both points on one road
-
-// An excellent match: both points strictly nearer than 5 metres.
-pub fn excellent(start: Candidate, first: Road, end: Candidate, last: Road) -> bool
-    ensures { result ≡ excellent (pair_as start first end last) }
-{
-    start.distance_m < 5.0 && end.distance_m < 5.0
-}
-
-// The least length; an excellent match has none.
-pub fn effective_min(b: Limits, start: Candidate, first: Road, end: Candidate, last: Road) -> f64
-    ensures { result ≡ effective_min b (pair_as start first end last) }
-{
-    if excellent(start, first, end, last) {
-        0.0
-    } else {
-        b.min_distance
+impl Pair {
+    // An excellent match: both points strictly nearer than 5 metres.
+    fn excellent(&self) -> bool
+        ensures { result ≡ excellent (pair_of self.now) }
+    {
+        self.start.candidate.distance_m < 5.0 && self.end.candidate.distance_m < 5.0
     }
-}
 
-// The greatest length; an excellent match has three times as much.
-pub fn effective_max(b: Limits, start: Candidate, first: Road, end: Candidate, last: Road) -> f64
-    ensures { result ≡ effective_max b (pair_as start first end last) }
-{
-    if excellent(start, first, end, last) {
-        b.max_valid_distance * 3.0
-    } else {
-        b.max_valid_distance
+    // The least length; an excellent match has none.
+    fn effective_min(&self, limits: Limits) -> f64
+        ensures { result ≡ effective_min limits (pair_of self.now) }
+    {
+        if self.excellent() {
+            0.0
+        } else {
+            limits.min_distance
+        }
     }
-}
 
-// The metres between the two points on the start's road.
-pub fn same_edge_length(start: Candidate, first: Road, end: Candidate, last: Road) -> f64
-    ensures { result ≡ same_edge_length (pair_as start first end last) }
-{
-    first.length_m * (end.projection_fraction - start.projection_fraction)
-}
+    // The greatest length; an excellent match has three times as much.
+    fn effective_max(&self, limits: Limits) -> f64
+        ensures { result ≡ effective_max limits (pair_of self.now) }
+    {
+        if self.excellent() {
+            limits.max_valid_distance * 3.0
+        } else {
+            limits.max_valid_distance
+        }
+    }
 
-// Whether the way from the start to the end on their road is a path.
-pub fn fits_same_edge(b: Limits, start: Candidate, first: Road, end: Candidate, last: Road) -> bool
-    ensures { result ≡ fits_same_edge b (pair_as start first end last) }
-{
-    if end.projection_fraction - start.projection_fraction <= 0.0 {
-        return false;
+    // The metres between the two points on the start's road.
+    pub fn same_edge_length(&self) -> f64
+        ensures { result ≡ same_edge_length (pair_of self.now) }
+    {
+        self.start.road.length_m
+            * (self.end.candidate.projection_fraction - self.start.candidate.projection_fraction)
     }
-    let length = same_edge_length(start, first, end, last);
-    if length < effective_min(b, start, first, end, last) {
-        return false;
+
+    // Whether the way from the start to the end on their road is a path.
+    pub fn fits_same_edge(&self, limits: Limits) -> bool
+        ensures { result ≡ fits_same_edge limits (pair_of self.now) }
+    {
+        if self.end.candidate.projection_fraction - self.start.candidate.projection_fraction
+            <= 0.0
+        {
+            return false;
+        }
+        let length = self.same_edge_length();
+        !(length < self.effective_min(limits)) && !(self.effective_max(limits) < length)
     }
-    let greatest = effective_max(b, start, first, end, last);
-    !(greatest < length)
 }
 
 // ---- a path over several roads
+impl Pair {
+    // The whole length, with this cost between the two roads.
+    pub fn path_cost(&self, cost: f64) -> f64
+        ensures { result ≡ path_cost (pair_of self.now) cost }
+    {
+        self.start.end_offset() + cost + self.end.start_offset()
+    }
 
-// The whole length, with this cost between the two roads.
-pub fn path_cost(start: Candidate, first: Road, end: Candidate, last: Road, cost: f64) -> f64
-    ensures { result ≡ path_cost (pair_as start first end last) cost }
-{
-    let start_part = end_offset(start, first);
-    let end_part = start_offset(end, last);
-    start_part + cost + end_part
+    // How far a search between the two roads may go.
+    pub fn middle_max(&self, limits: Limits) -> f64
+        ensures { result ≡ middle_max limits (pair_of self.now) }
+    {
+        limits.max_search_distance - self.start.end_offset() - self.end.start_offset()
+    }
 }
 
-// Whether a leg accepts this length.
-pub fn fits_path(b: Limits, total: f64) -> bool
-    ensures { result ≡ fits_path b total }
+// Whether a leg accepts this length of a path over several roads.
+pub fn fits_path(limits: Limits, total: f64) -> bool
+    ensures { result ≡ fits_path limits total }
 {
-    if total <= 0.0 {
-        return false;
-    }
-    if total < b.min_distance {
-        return false;
-    }
-    !(b.max_valid_distance < total)
+    !(total <= 0.0) && !(total < limits.min_distance) && !(limits.max_valid_distance < total)
 }
 
 // Whether a terminal road stays: its part is at least 0.03 of the length.
@@ -121,13 +118,4 @@ pub fn stays(part: f64, total: f64) -> bool
     ensures { result ≡ stays part total }
 {
     part / total >= 0.03
-}
-
-// How far a search between the two roads may go.
-pub fn middle_max(b: Limits, start: Candidate, first: Road, end: Candidate, last: Road) -> f64
-    ensures { result ≡ middle_max b (pair_as start first end last) }
-{
-    let start_part = end_offset(start, first);
-    let end_part = start_offset(end, last);
-    b.max_search_distance - start_part - end_part
 }

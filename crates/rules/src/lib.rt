@@ -1,7 +1,15 @@
 // The rules of one leg by value: what it accepts, the lengths and scores of its paths, and the best path on one road.
 #![tactic(auto)]
 
+ghost use Rattle.std.specs.Prelude.{◌≡◌, ◌<◌};
+ghost use Rattle.model.specs.Legs.{pair};
+ghost use Rattle.sheet.specs.Contents.{contents};
+ghost use Rattle.candidates.specs.Found.{at_road};
+ghost use Rattle.rules.specs.Code.{pair_of, Within};
+
+use candidates::candidate::Candidate;
 use model::Road;
+use sheet::Sheet;
 
 pub mod floats;
 pub mod lengths;
@@ -9,10 +17,43 @@ pub mod limits;
 pub mod routes;
 pub mod same_edge;
 
-// A terminal road of a path, if it is kept, with the metres that are covered of it.
+// A candidate with its road.
+#[derive(Clone, Copy)]
+pub struct Placed {
+    pub candidate: Candidate,
+    pub road: Road,
+}
+
+// The start and the end of a path.
+#[derive(Clone, Copy)]
+pub struct Pair {
+    pub start: Placed,
+    pub end: Placed,
+}
+
+impl Pair {
+    // Two candidates on the roads of the sheet.
+    pub fn new(sheet: &Sheet<'_>, start: &Candidate, end: &Candidate) -> Pair
+        requires { (start.now.edge_idx < sheet.now.counts.e) × (end.now.edge_idx < sheet.now.counts.e) }
+        ensures stands { pair_of result ≡ pair (at_road (contents sheet.now) start.now) (at_road (contents sheet.now) end.now) }
+        ensures within { Within sheet.now.counts.n result }
+    {
+        Pair {
+            start: Placed {
+                candidate: *start,
+                road: sheet.road(start.edge_idx),
+            },
+            end: Placed {
+                candidate: *end,
+                road: sheet.road(end.edge_idx),
+            },
+        }
+    }
+}
+
+// A terminal road of a path, with the metres that are covered of it.
 #[derive(Clone, Copy)]
 pub struct TerminalEdge {
-    pub kept: bool,
     pub road: Road,
     pub coverage_m: f64,
 }
@@ -26,21 +67,20 @@ pub struct Middle {
     pub count: usize,
 }
 
-// A path: its length and offsets, the first road, the roads between, and the last road.
+// A path: its length and offsets, the first road if it is kept, the roads between, and the last road if it is kept.
 #[derive(Clone, Copy)]
 pub struct PathResult {
     pub total_length: f64,
     pub start_offset_m: f64,
     pub end_offset_m: f64,
-    pub head: TerminalEdge,
+    pub head: Option<TerminalEdge>,
     pub middle: Middle,
-    pub tail: TerminalEdge,
+    pub tail: Option<TerminalEdge>,
 }
 
-// The best path so far, if there is one, with its score.
+// A path with its score. The best path so far is an `Option` of one.
 #[derive(Clone, Copy)]
-pub struct Best {
-    pub found: bool,
+pub struct Scored {
     pub score: f64,
     pub path: PathResult,
 }

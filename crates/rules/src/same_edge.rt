@@ -1,79 +1,76 @@
 // The best path on one road.
-ghost use Rattle.std.specs.Prelude.{◌≡◌};
-ghost use Rattle.model.specs.Judge.{WellFormed};
-ghost use Rattle.model.specs.Sheet.{sheet_of};
-ghost use Rattle.model.specs.Legs.{MiddleSearch, pairs, close, take_close, try_same_edge_solution};
-ghost use Rattle.candidates.specs.Found.{held, CandidatesReady};
-ghost use Rattle.rules.specs.Code.{pair_as, best_of, BestIs};
+#![tactic(auto, unfolding(model::specs::Legs::close, model::specs::Legs::take_close))]
 
-use crate::{Best, routes};
+ghost use Rattle.std.specs.Prelude.{◌≡◌, map, ◌<◌};
+ghost use Rattle.sheet.specs.Contents.{contents};
+ghost use Rattle.model.specs.Lists.{fold};
+ghost use Rattle.model.specs.Legs.{MiddleSearch, pair, pairs, close, take_close, try_same_edge_solution};
+ghost use Rattle.candidates.specs.Found.{at_road, held, CandidatesReady};
+ghost use Rattle.rules.specs.Code.{pair_of, best_of, BestIs, Named};
+
+use crate::{Pair, Scored, routes};
 use candidates::candidate::Candidate;
-use candidates::find::Candidates;
-use model::{Counts, Limits, Road};
+use model::Limits;
 use road_network::road_class;
-use sheet::roads;
+use sheet::Sheet;
 
 // Whether both points lie within 10 metres (10 included) of one road that the leg may use.
-fn close(b: Limits, start: Candidate, first: Road, end: Candidate, last: Road) -> bool
-    ensures { result ≡ close b (pair_as start first end last) }
+fn close(limits: Limits, pair: &Pair) -> bool
+    ensures { result ≡ close limits (pair_of pair.now) }
 {
-    if !(start.distance_m <= 10.0) {
-        return false;
-    }
-    if !(end.distance_m <= 10.0) {
-        return false;
-    }
-    if first.number == last.number {
-        return road_class::permits(b.constraints, first);
-    }
-    false
+    pair.start.candidate.distance_m <= 10.0
+        && pair.end.candidate.distance_m <= 10.0
+        && pair.start.road.number == pair.end.road.number
+        && road_class::permits(limits.constraints, pair.start.road)
 }
 
 // The best so far after one pair.
-fn take_close(
-    b: Limits,
-    best: Best,
-    start: Candidate,
-    first: Road,
-    end: Candidate,
-    last: Road,
-) -> Best
-    ensures { (search : MiddleSearch) → best_of search result ≡ take_close b (best_of search best) (pair_as start first end last) }
+fn take_close(limits: Limits, best: Option<Scored>, pair: &Pair) -> Option<Scored>
+    ensures { (search : MiddleSearch) → best_of search result ≡ take_close limits (best_of search best) (pair_of pair.now) }
 {
-    if close(b, start, first, end, last) {
-        let next = routes::same_edge_scored(b, start, first, end, last);
-        return routes::first_or_better(best, next);
+    if close(limits, pair) {
+        routes::first_or_better(best, routes::same_edge_scored(limits, pair))
+    } else {
+        best
+    }
+}
+
+// The best so far after the pairs of one start. Only an end on the start's road can change it, so roads are read for such a pair alone.
+#[tactic(auto, using(crate::proofs::OneRoad::ends_more), unfolding(model::specs::Lists::fold))]
+fn take_ends(
+    sheet: &Sheet<'_>,
+    limits: Limits,
+    best: Option<Scored>,
+    start: &Candidate,
+    ends: &[Candidate],
+) -> Option<Scored>
+    requires { (start.now.edge_idx < sheet.now.counts.e) × Named sheet.now.counts ends.now }
+    ensures { (search : MiddleSearch) → best_of search result ≡ fold (take_close limits) (best_of search best) (map (pair (at_road (contents sheet.now) start.now)) (map (at_road (contents sheet.now)) ends.now)) }
+{
+    let mut best = best;
+    for end in ends {
+        if end.edge_idx == start.edge_idx {
+            let pair = Pair::new(sheet, start, end);
+            best = take_close(limits, best, &pair);
+        }
     }
     best
 }
 
 // The best path on one road over all pairs with both points close to it, if there is one. It wins outright.
-// Only an end on the start's road can change the best so far, so the road is read for such a pair alone. One function, so that neither list is copied for a call.
+#[tactic(auto, unfolding(model::specs::Lists::fold, model::specs::Legs::pairs, model::specs::Legs::try_same_edge_solution, candidates::specs::Found::held))]
 pub fn try_same_edge_solution(
-    s: &[u8],
-    c: Counts,
-    b: Limits,
-    starts: Candidates,
-    ends: Candidates,
-) -> Best
-    requires { WellFormed s.now c × CandidatesReady c starts × CandidatesReady c ends }
-    ensures { BestIs result (try_same_edge_solution b (pairs (held (sheet_of s.now c) starts) (held (sheet_of s.now c) ends))) }
+    sheet: &Sheet<'_>,
+    limits: Limits,
+    starts: &[Candidate],
+    ends: &[Candidate],
+) -> Option<Scored>
+    requires { CandidatesReady sheet.now.counts starts.now × CandidatesReady sheet.now.counts ends.now }
+    ensures { BestIs result (try_same_edge_solution limits (pairs (held (contents sheet.now) starts.now) (held (contents sheet.now) ends.now))) }
 {
-    let mut best = routes::no_best();
-    let mut i = 0;
-    while i < starts.count {
-        let x = starts.items[i];
-        let number = x.edge_idx;
-        let mut j = 0;
-        'ends: while j < ends.count {
-            let y = ends.items[j];
-            if y.edge_idx == number {
-                let road = roads::road(s, c, number);
-                best = take_close(b, best, x, road, y, road);
-            }
-            j += 1;
-        }
-        i += 1;
+    let mut best = None;
+    for start in starts {
+        best = take_ends(sheet, limits, best, start, ends);
     }
     best
 }

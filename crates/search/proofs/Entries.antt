@@ -1,22 +1,20 @@
 -- The entries that the heap's areas stand for: one of them, one more, and the heap of their numbers after a push and a pop.
-use Prim.Native.Nat.{ℕ, zero, suc, ◌+◌, ◌-◌, ◌≤◌, ◌<◌, suc-le-suc, zero-le}
-use mathlib.Core.Path.{◌≡◌, sym, ap, ◌∙◌}
+use Prim.Native.Nat.{ℕ, ◌+◌, ◌<◌}
+use mathlib.Core.Path.{◌≡◌, sym, ap}
 use mathlib.Core.Logic.{inl, inr}
 use mathlib.Core.List.Memᴰ
 use mathlib.Core.List.{List, [], ◌∷◌, ◌++◌}
 use native.Mathlib.Omega.{arith}
-use lib.ListN.{length, get_or, set, take}
-use lib.Seq.{get_or-set_same, get_or-set_other, get_or-take}
+use lib.ListN.{length, set}
+use lib.Seq.{get_or-set_same, get_or-set_other}
 use lib.Ieee.{Float, nan}
-use Rattle.model.specs.Numbers.{f0}
 use Rattle.model.specs.Heap.{push, pop}
 use Rattle.model.specs.Search.{Entry, no_entry, entry_at, f_score_of}
-use Rattle.model.proofs.Members.{length_tab, getD_table, Every, every_none, every_cons}
+use Rattle.model.proofs.Members.{length_tab, getD_table}
 use Rattle.bounds.proofs.HeapLaws.{push_held, pop_held}
 use Rattle.heap.specs.Keys.{key_in, Below}
-use Rattle.heap.proofs.Fronts.{within_list, front_below}
 use Rattle.heap.proofs.KeysSame.{push_same, pop_same}
-use Rattle.search.specs.Areas.{heap_entry, entries_of, Columns, Proper}
+use Rattle.search.specs.Areas.{heap_entry, entries_of}
 use Rattle.search.proofs.Tables.{table_more}
 
 module _ (key cost : List Float) (node : List ℕ) (made : ℕ) where
@@ -28,8 +26,8 @@ module _ (key cost : List Float) (node : List ℕ) (made : ℕ) where
   unfolding entries_of
   entry_is k h = getD_table made (heap_entry key cost node) k no_entry h
 
-  pub key_is : (k : ℕ) → k < made → made ≤ length key → f_score_of (entries_of key cost node made) k ≡ get_or key k f0
-  key_is k h l = ap (λ (x : Entry). x.f_score) (entry_is k h) ∙ within_list key k nan f0 (omega arith)
+  pub key_is : (k : ℕ) → k < made → f_score_of (entries_of key cost node made) k ≡ key_in key k
+  key_is k h = ap (λ (x : Entry). x.f_score) (entry_is k h)
 
   -- a store in each of the three areas behind the last entry is one entry more
   pub entries_more : (x y : Float) (v : ℕ) → made < length key → made < length cost → made < length node
@@ -42,44 +40,20 @@ module _ (key cost : List Float) (node : List ℕ) (made : ℕ) where
 
 -- ---- the heap
 
--- what holds of the first numbers of the area holds of the heap's entries
-pub below_front : (o : List ℕ) (len m : ℕ) → len ≤ length o → Below o len m → Every (λ k. k < m) (take len o)
-below_front o zero m h b = every_none (λ k. k < m)
-below_front [] (suc len) m h b = every_none (λ k. k < m)
-below_front (x ∷ o) (suc len) m h b = every_cons (λ k. k < m) (b 0 (suc-le-suc zero-le)) (below_front o len m (omega arith) (λ j l. b (suc j) (suc-le-suc l)))
-
-module _ (key cost : List Float) (node : List ℕ) (made : ℕ) (order order' : List ℕ) (len : ℕ) (wide : made ≤ length key) (fits : len ≤ length order)
-    (lent : List Float) (agree : (k : ℕ) → k < made → key_in lent k ≡ key_in key k) where
+module _ (key cost : List Float) (node : List ℕ) (made : ℕ) (heap : List ℕ) where
   -- entry e, the last one made, goes in
-  module _ (e : ℕ) (last : made ≡ e + 1) (below : Below order len e) (is : take (len + 1) order' ≡ push (key_in lent) (take len order) e) where
-    pub heap_push : take (len + 1) order' ≡ push (f_score_of (entries_of key cost node made)) (take len order) e
-    heap_push = is ∙ push_same (key_in lent) (f_score_of (entries_of key cost node made)) (take len order) e (λ k m.
-        let h : k < made = elim (Memᴰ.cases_cons m) [ inl p ↦ omega arith | inr p ↦ omega (arith, below_front order len e fits below k p) ] in
-        agree k h ∙ sym (key_is key cost node made k h wide))
-
-    pub push_below : len + 1 ≤ length order' → Below order' (len + 1) made
-    push_below h =
-        let held = push_held (λ k. k < made) (key_in lent) (take len order) e (λ k m. omega (arith, below_front order len e fits below k m)) (omega arith) in
-        front_below order' (len + 1) made h (rw is held.every)
+  pub heap_push : (e : ℕ) → made ≡ e + 1 → Below heap e → push (key_in key) heap e ≡ push (f_score_of (entries_of key cost node made)) heap e
+  heap_push e last below =
+      push_same (key_in key) (f_score_of (entries_of key cost node made)) heap e (λ k m.
+      let h : k < made = elim (Memᴰ.cases_cons m) [ inl p ↦ omega arith | inr p ↦ omega (arith, below k p) ] in
+      sym (key_is key cost node made k h))
 
   -- the first one goes out
-  module _ (below : Below order len made) (is : take (len - 1) order' ≡ pop (key_in lent) (take len order)) where
-    pub heap_pop : take (len - 1) order' ≡ pop (f_score_of (entries_of key cost node made)) (take len order)
-    heap_pop = is ∙ pop_same (key_in lent) (f_score_of (entries_of key cost node made)) (take len order) (λ k m.
-        let h : k < made = below_front order len made fits below k m in
-        agree k h ∙ sym (key_is key cost node made k h wide))
+  pub heap_pop : Below heap made → pop (key_in key) heap ≡ pop (f_score_of (entries_of key cost node made)) heap
+  heap_pop below = pop_same (key_in key) (f_score_of (entries_of key cost node made)) heap (λ k m. sym (key_is key cost node made k (below k m)))
 
-    pub pop_below : len - 1 ≤ length order' → Below order' (len - 1) made
-    pop_below h = front_below order' (len - 1) made h (rw is (pop_held (λ k. k < made) (key_in lent) (take len order) (below_front order len made fits below)).every)
+pub push_below : (key : ℕ → Float) (heap : List ℕ) (e : ℕ) → Below heap e → Below (push key heap e) (e + 1)
+push_below key heap e below = (push_held (λ k. k < e + 1) key heap e (λ k m. omega (arith, below k m)) (omega arith)).every
 
--- the heap reads the keys of the whole area that is lent
-pub keys_agree : (slots : ℕ) (lent : List Float) (made : ℕ) → made ≤ slots → (j : ℕ) → j < made → key_in lent j ≡ key_in (take slots lent) j
-keys_agree slots lent made h j l = sym (get_or-take slots lent j f0 (omega arith))
-
--- what the heap asks of the areas before a push of the next entry, and before a pop; it is lent m places for keys
-module _ {n e slots : ℕ} {a : Columns} (ok : Proper n e slots a) (m : ℕ) (wide : slots ≤ m) where
-  pub can_push : a.made < slots → ((a.len < length a.order) × (a.made < m)) × Below a.order a.len m
-  can_push spare = ((omega (arith, ok.sized.order, ok.fewer), omega arith), λ j h. omega (arith, ok.numbers j h))
-
-  pub can_pop : 0 < a.len → ((0 < a.len) × (a.len ≤ length a.order)) × Below a.order a.len m
-  can_pop h = ((h, omega (arith, ok.sized.order, ok.fewer, ok.room)), λ j l. omega (arith, ok.numbers j l, ok.room))
+pub pop_below : (key : ℕ → Float) (heap : List ℕ) (made : ℕ) → Below heap made → Below (pop key heap) made
+pop_below key heap made below = (pop_held (λ k. k < made) key heap below).every

@@ -1,209 +1,191 @@
--- A node gets a label and an entry: the areas stand for the definition's next state, and stay proper.
+-- A node gets a label and an entry, and a search begins: the areas stand for the definition's next state, and stay proper.
 use Prim.Native.Nat.{ℕ, ◌+◌, ◌≤◌, ◌<◌}
-use mathlib.Core.Path.{◌≡◌, refl, sym, ap, ◌∙◌, subst}
+use mathlib.Core.Path.{◌≡◌, refl, sym, ap, ◌∙◌}
 use mathlib.Core.Logic.{inl, inr, ◌≢◌}
 use mathlib.Core.Option.{none, some}
+use mathlib.Core.List.Memᴰ
 use mathlib.Core.List.{List, [], ◌∷◌, ◌++◌}
 use native.Mathlib.Omega.{arith}
-use lib.ListN.{length, get_or, set, take, drop, length-set}
-use lib.Seq.{get_or-set_same, get_or-set_other, get_or-take, take-set-le, drop-set-add, length-take-le}
+use lib.ListN.{length, get_or, set, replicate, length-set, length-replicate, get_or-replicate}
+use lib.Seq.{get_or-set_same, get_or-set_other}
 use lib.Ieee.{Float}
-use borrow.Author.Tests.{ne_eqb}
 use Rattle.model.specs.declared.Road.{Road}
 use Rattle.model.specs.Numbers.{f0, ◌⊕◌}
-use Rattle.model.specs.Layout.{most_roads}
-use Rattle.model.specs.Heap.{push}
-use Rattle.model.specs.Search.{Query, Label, Entry, f_score_of, entered}
+use Rattle.model.specs.Lists.{tabulate}
+use Rattle.model.specs.Heap.{sift_up, push}
+use Rattle.model.specs.Search.{Query, Entry, State, f_score_of, entered, begun}
 use Rattle.bounds.proofs.Choices.{same_or_other}
+use Rattle.bounds.proofs.HeapLaws.{length_push}
 use Rattle.bounds.proofs.Turns.{entered_some, entered_none}
-use Rattle.heap.specs.Keys.{key_in, Below}
-use Rattle.search.specs.Areas.{start_mark, came_by, marked, labels_of, entries_of, Columns, make_columns, columns, state_of, Sized, SameSizes, MarkOrRoad, Reached, Proper, AreasKept}
-use Rattle.search.proofs.Halves.{halves_length, first_half, second_half, first_lent, second_kept}
-use Rattle.search.proofs.Labels.{marked_some, labels_set}
+use Rattle.heap.specs.Keys.{key_in}
+use Rattle.std.specs.Prelude.{None}
+use Rattle.search.specs.declared.areas.Label.{Label}
+use Rattle.search.specs.declared.areas.SearchAreas.{SearchAreas}
+use Rattle.search.specs.Areas.{unreached, label_of, labels_of, label_as, mark_of, CameByRoad, entries_of, Columns, columns, state_of, grown, Sized, MarkOrRoad, Reached, Proper, AreasKept}
+use Rattle.search.proofs.Tables.{table_alike}
+use Rattle.search.proofs.Labels.{marked_none, label_left, mark_reaches, labels_set}
 use Rattle.search.proofs.Entries.{entry_count, entries_more, heap_push, push_below}
 
 -- ---- from areas to areas
 
-pub sized_on : {n slots : ℕ} {a b : Columns} → Sized n slots a → SameSizes a b → Sized n slots b
-sized_on f g = record {
-  real = rw g.real f.real;
-  penalised = rw g.penalised f.penalised;
-  came = rw g.came f.came;
-  f_score = rw g.f_score f.f_score;
-  g_score = rw g.g_score f.g_score;
-  node = rw g.node f.node;
-  order = rw g.order f.order;
-}
-
-pub sizes_on : {a b d : Columns} → SameSizes a b → SameSizes b d → SameSizes a d
-sizes_on f g = record {
-  real = g.real ∙ f.real;
-  penalised = g.penalised ∙ f.penalised;
-  came = g.came ∙ f.came;
-  f_score = g.f_score ∙ f.f_score;
-  g_score = g.g_score ∙ f.g_score;
-  node = g.node ∙ f.node;
-  order = g.order ∙ f.order;
-}
-
 pub kept_on : {n e slots : ℕ} {a b d : Columns} → AreasKept n e slots a b → AreasKept n e slots b d → AreasKept n e slots a d
-kept_on f g = record { proper = g.proper; sizes = sizes_on f.sizes g.sizes; gone = omega (arith, f.gone, g.gone); reached = λ v h. g.reached v (f.reached v h) }
+kept_on f g = record { proper = g.proper; gone = omega (arith, f.gone, g.gone); reached = λ v h. g.reached v (f.reached v h) }
 
 pub kept_same : {n e slots : ℕ} {a : Columns} → Proper n e slots a → AreasKept n e slots a a
-kept_same ok = record { proper = ok; sizes = record { real = refl; penalised = refl; came = refl; f_score = refl; g_score = refl; node = refl; order = refl }; gone = omega arith; reached = λ v h. h }
+kept_same ok = record { proper = ok; gone = omega arith; reached = λ v h. h }
 
--- the heap's order and length anew
-pub reordered : {n e slots : ℕ} {a : Columns} → Proper n e slots a → (order : List ℕ) (len : ℕ) → length order ≡ length a.order → len ≤ a.made → Below order len a.made
-    → Proper n e slots (make_columns a.real a.penalised a.came a.f_score a.g_score a.node order len a.made)
-reordered ok order len size fewer numbers = record {
-  sized = record { real = ok.sized.real; penalised = ok.sized.penalised; came = ok.sized.came; f_score = ok.sized.f_score; g_score = ok.sized.g_score; node = ok.sized.node; order = rw size ok.sized.order };
-  fewer = fewer;
-  room = ok.room;
-  numbers = numbers;
-  nodes = ok.nodes;
-  reached = ok.reached;
-  marks = ok.marks;
+-- the lent areas have room
+pub sized : (a : SearchAreas) → Sized a.nodes a.slots (columns a)
+sized a = record {
+  real = omega (arith, a.labels.0);
+  penalised = omega (arith, a.labels.1);
+  came = omega (arith, a.labels.2);
+  f_score = omega (arith, a.entries.0);
+  g_score = omega (arith, a.entries.1);
+  node = omega (arith, a.entries.2);
 }
 
 -- ---- one label and one entry more
 
-module _ (n e slots : ℕ) (few : e ≤ most_roads) (a : Columns) (ok : Proper n e slots a) where
-  pub grown_full : slots ≤ a.made → (roads : ℕ → Road) (q : Query) (v : ℕ) (l : Label) → none ≡ entered slots q (state_of roads n a) v l
-  grown_full h roads q v l = sym (entered_none slots q (state_of roads n a) v l (omega (arith, entry_count a.f_score a.g_score a.node a.made)))
+module _ {n e slots : ℕ} {a : Columns} (ok : Proper n e slots a) where
+  pub grown_full : slots ≤ a.made → (roads : ℕ → Road) (q : Query) (v : ℕ) (l : Label) → none ≡ entered slots q (state_of roads n a) v (label_as roads l)
+  grown_full h roads q v l = sym (entered_none slots q (state_of roads n a) v (label_as roads l) (omega (arith, entry_count a.f_score a.g_score a.node a.made)))
 
-  -- node v, `far` from the goal, gets the costs x and y and the road k, and an entry
-  module _ (spare : a.made < slots) (v : ℕ) (inside : v < n) (k : ℕ) (road : k < e) (x y far : Float) (order : List ℕ) (size : length order ≡ length a.order)
-      (lent : List Float) (agree : (j : ℕ) → j < a.made + 1 → key_in lent j ≡ key_in (set a.f_score a.made (y ⊕ far)) j) (pushed : take (a.len + 1) order ≡ push (key_in lent) (take a.len a.order) a.made) where
-    abbrev key : Float
-    key = y ⊕ far
-
-    abbrev keys : List Float
-    keys = set a.f_score a.made key
-
-    abbrev costs : List Float
-    costs = set a.g_score a.made y
-
-    abbrev nodes : List ℕ
-    nodes = set a.node a.made v
-
-    abbrev grown : Columns
-    grown = make_columns (set a.real v x) (set a.penalised v y) (set a.came v k) keys costs nodes order (a.len + 1) (a.made + 1)
-
-    wide : a.made + 1 ≤ length keys
-    wide = omega (arith, length-set a.f_score a.made key, ok.sized.f_score)
-
-    fits : a.len ≤ length a.order
-    fits = omega (arith, ok.sized.order, ok.fewer)
+  module _ (spare : a.made < slots) {v : ℕ} (inside : v < n) (l : Label) (by : CameByRoad e l.came_from) (f : Float) where
+    abbrev b : Columns
+    b = grown a v l f
 
     -- ---- the state
 
-    module _ (roads : ℕ → Road) (q : Query) (is : far ≡ q.heuristic v) where
-      abbrev label : Label
-      label = record { real = x; penalised = y; came_from = some (roads k) }
+    module _ (roads : ℕ → Road) where
+      abbrev made : List Entry
+      made = entries_of a.f_score a.g_score a.node a.made ++ record { f_score = f; g_score = l.penalised; node = v } ∷ []
 
-      label_is : marked roads x y k ≡ some label
-      unfolding came_by
-      label_is = marked_some roads x y k (λ z. omega arith) ∙ rw (ne_eqb k start_mark (λ z. omega arith))
+      pub grown_labels : labels_of roads n b.real b.penalised b.came ≡ set (labels_of roads n a.real a.penalised a.came) v (some (label_as roads l))
+      grown_labels = labels_set roads n a.real a.penalised a.came v l.real l.penalised (mark_of l.came_from) inside ok.sized.real ok.sized.penalised ok.sized.came ∙ rw (label_left roads l e by)
 
-      labels_are : labels_of roads n (set a.real v x) (set a.penalised v y) (set a.came v k) ≡ set (labels_of roads n a.real a.penalised a.came) v (some label)
-      labels_are = labels_set roads n a.real a.penalised a.came v x y k inside ok.sized.real ok.sized.penalised ok.sized.came ∙ rw label_is
+      pub grown_entries : entries_of b.f_score b.g_score b.node b.made ≡ made
+      grown_entries = entries_more a.f_score a.g_score a.node a.made f l.penalised v (omega (arith, ok.sized.f_score)) (omega (arith, ok.sized.g_score)) (omega (arith, ok.sized.node))
 
-      entries_are : entries_of keys costs nodes (a.made + 1) ≡ entries_of a.f_score a.g_score a.node a.made ++ record { f_score = y ⊕ q.heuristic v; g_score = y; node = v } ∷ []
-      entries_are = entries_more a.f_score a.g_score a.node a.made key y v (omega (arith, ok.sized.f_score)) (omega (arith, ok.sized.g_score)) (omega (arith, ok.sized.node)) ∙ rw is
+      grown_heap : b.heap ≡ push (f_score_of made) a.heap (length (entries_of a.f_score a.g_score a.node a.made))
+      grown_heap =
+          heap_push b.f_score b.g_score b.node b.made a.heap a.made refl ok.numbers
+          ∙ ap (λ (es : List Entry). push (f_score_of es) a.heap a.made) grown_entries
+          ∙ ap (λ (m : ℕ). push (f_score_of made) a.heap m) (sym (entry_count a.f_score a.g_score a.node a.made))
 
-      heap_is : take (a.len + 1) order ≡ push (f_score_of (entries_of a.f_score a.g_score a.node a.made ++ record { f_score = y ⊕ q.heuristic v; g_score = y; node = v } ∷ [])) (take a.len a.order) (length (entries_of a.f_score a.g_score a.node a.made))
-      heap_is =
-          heap_push keys costs nodes (a.made + 1) a.order order a.len wide fits lent agree a.made refl ok.numbers pushed
-          ∙ ap (λ (es : List Entry). push (f_score_of es) (take a.len a.order) a.made) entries_are
-          ∙ ap (λ (m : ℕ). push (f_score_of (entries_of a.f_score a.g_score a.node a.made ++ record { f_score = y ⊕ q.heuristic v; g_score = y; node = v } ∷ [])) (take a.len a.order) m) (sym (entry_count a.f_score a.g_score a.node a.made))
-
-      grown_state : some (state_of roads n grown) ≡ entered slots q (state_of roads n a) v label
-      grown_state =
-          (λ i. some record { labels = labels_are i; made = entries_are i; heap = heap_is i })
-          ∙ sym (entered_some slots q (state_of roads n a) v label (omega (arith, entry_count a.f_score a.g_score a.node a.made)))
+      pub grown_state : (q : Query) → f ≡ l.penalised ⊕ q.heuristic v → some (state_of roads n b) ≡ entered slots q (state_of roads n a) v (label_as roads l)
+      grown_state q is =
+          (λ i. some record { labels = grown_labels i; made = grown_entries i; heap = grown_heap i })
+          ∙ rw is (sym (entered_some slots q (state_of roads n a) v (label_as roads l) (omega (arith, entry_count a.f_score a.g_score a.node a.made))))
 
     -- ---- the areas
 
-    mark_there : get_or (set a.came v k) v 0 ≡ k
-    mark_there = get_or-set_same a.came v k 0 (omega (arith, ok.sized.came))
+    mark_there : get_or b.came v 0 ≡ mark_of l.came_from
+    mark_there = get_or-set_same a.came v (mark_of l.came_from) 0 (omega (arith, ok.sized.came))
 
-    mark_elsewhere : (u : ℕ) → u ≢ v → get_or (set a.came v k) u 0 ≡ get_or a.came u 0
-    mark_elsewhere u h = get_or-set_other a.came v u k 0 h
+    mark_elsewhere : (u : ℕ) → u ≢ v → get_or b.came u 0 ≡ get_or a.came u 0
+    mark_elsewhere u h = get_or-set_other a.came v u (mark_of l.came_from) 0 h
 
-    still_reached : (u : ℕ) → Reached a u → Reached grown u
-    still_reached u h = elim (same_or_other u v) [ inl p ↦ λ z. omega (arith, ap (λ (w : ℕ). get_or (set a.came v k) w 0) p, mark_there) | inr p ↦ λ z. h (sym (mark_elsewhere u p) ∙ z) ]
+    now_reached : Reached b v
+    now_reached z = (mark_reaches e l.came_from by).0 (sym mark_there ∙ z)
 
-    marks : (u : ℕ) → u < n → MarkOrRoad e (get_or (set a.came v k) u 0)
-    marks u h = elim (same_or_other u v) [ inl p ↦ rw (p, mark_there) (inr (inr road)) | inr p ↦ rw (mark_elsewhere u p) (ok.marks u h) ]
+    still_reached : (u : ℕ) → Reached a u → Reached b u
+    still_reached u h = elim (same_or_other u v) [ inl p ↦ rw p now_reached | inr p ↦ λ z. h (sym (mark_elsewhere u p) ∙ z) ]
+
+    marks : (u : ℕ) → u < n → MarkOrRoad e (get_or b.came u 0)
+    marks u h = elim (same_or_other u v) [ inl p ↦ rw (p, mark_there) (mark_reaches e l.came_from by).1 | inr p ↦ rw (mark_elsewhere u p) (ok.marks u h) ]
 
     -- the new entry stands at v, and each other where it stood
-    at_node : (P : ℕ → Type 0) → P v → ((j : ℕ) → j < a.made → P (get_or a.node j 0)) → (j : ℕ) → j < a.made + 1 → P (get_or nodes j 0)
+    at_node : (P : ℕ → Type 0) → P v → ((j : ℕ) → j < a.made → P (get_or a.node j 0)) → (j : ℕ) → j < a.made + 1 → P (get_or b.node j 0)
     at_node P new old j h = elim (same_or_other j a.made) [
       | inl p ↦ rw (p, get_or-set_same a.node a.made v 0 (omega (arith, ok.sized.node))) new
       | inr p ↦ rw (get_or-set_other a.node a.made j v 0 p) (old j (omega arith))
     ]
 
-    grown_sizes : SameSizes a grown
-    grown_sizes = record {
-      real = length-set a.real v x;
-      penalised = length-set a.penalised v y;
-      came = length-set a.came v k;
-      f_score = length-set a.f_score a.made key;
-      g_score = length-set a.g_score a.made y;
-      node = length-set a.node a.made v;
-      order = size;
-    }
-
-    grown_kept : AreasKept n e slots a grown
+    pub grown_kept : AreasKept n e slots a b
     grown_kept = record {
       proper = record {
-        sized = sized_on ok.sized grown_sizes;
-        fewer = omega (arith, ok.fewer);
+        sized = record {
+          real = simp length-set ok.sized.real;
+          penalised = simp length-set ok.sized.penalised;
+          came = simp length-set ok.sized.came;
+          f_score = simp length-set ok.sized.f_score;
+          g_score = simp length-set ok.sized.g_score;
+          node = simp length-set ok.sized.node;
+        };
+        fewer = omega (arith, length_push (key_in b.f_score) a.heap a.made, ok.fewer);
         room = omega arith;
-        numbers = push_below keys costs nodes (a.made + 1) a.order order a.len wide fits lent agree a.made refl ok.numbers pushed (omega (arith, ok.sized.order, ok.fewer));
+        numbers = push_below (key_in b.f_score) a.heap a.made ok.numbers;
         nodes = at_node (λ u. u < n) inside ok.nodes;
-        reached = at_node (Reached grown) (λ z. omega (arith, mark_there)) (λ j h. still_reached (get_or a.node j 0) (ok.reached j h));
+        reached = at_node (Reached b) now_reached (λ j h. still_reached (get_or a.node j 0) (ok.reached j h));
         marks = marks;
       };
-      sizes = grown_sizes;
-      gone = omega arith;
+      gone = omega (arith, length_push (key_in b.f_score) a.heap a.made);
       reached = still_reached;
     }
 
--- as the areas are lent
-module _ (n e slots : ℕ) (few : e ≤ most_roads) (labels : List Float) (came : List ℕ) (entries : List Float) (links : List ℕ) (len made : ℕ) (ok : Proper n e slots (columns n slots labels came entries links len made))
-    (spare : made < slots) (v : ℕ) (inside : v < n) (k : ℕ) (road : k < e) (x y far : Float) (order : List ℕ) (size : length order ≡ length (take slots (set links (slots + made) v)))
-    (pushed : take (len + 1) order ≡ push (key_in (set (set entries made (y ⊕ far)) (slots + made) y)) (take len (take slots (set links (slots + made) v))) made) where
-  abbrev a : Columns
-  a = columns n slots labels came entries links len made
+-- ---- the beginning
 
-  abbrev lent : List Float
-  lent = set (set entries made (y ⊕ far)) (slots + made) y
+-- the label of the start
+abbrev pub first : Label
+first = record { real = f0; penalised = f0; came_from = None }
 
-  abbrev after : Columns
-  after = columns n slots (set (set labels v x) (n + v) y) (set came v k) lent (order ++ drop slots (set links (slots + made) v)) (len + 1) (made + 1)
+-- no node is reached, and there is no entry
+abbrev pub cleared : Columns → ℕ → Columns
+cleared a m = record a { came = replicate m unreached; heap = []; made = 0 }
 
-  same : take slots (set links (slots + made) v) ≡ take slots links
-  same = take-set-le slots links (slots + made) v (omega arith)
+module _ {n slots : ℕ} {a : Columns} (fits : Sized n slots a) (one : 0 < slots) {m : ℕ} (all : n ≤ m) where
+  unmarked : (v : ℕ) → v < n → get_or (replicate m unreached) v 0 ≡ unreached
+  unmarked v h = get_or-replicate m v unreached 0 (omega arith)
 
-  size' : length order ≡ length (take slots links)
-  size' = rw same at size
+  cleared_proper : (e : ℕ) → Proper n e slots (cleared a m)
+  cleared_proper e = record {
+    sized = record {
+      real = fits.real;
+      penalised = fits.penalised;
+      came = simp length-replicate all;
+      f_score = fits.f_score;
+      g_score = fits.g_score;
+      node = fits.node;
+    };
+    fewer = omega arith;
+    room = omega arith;
+    numbers = λ k m. absurd (Memᴰ.not-nil m);
+    nodes = λ k h. absurd (omega arith);
+    reached = λ k h. absurd (omega arith);
+    marks = λ v h. inl (unmarked v h);
+  }
 
-  pushed' : take (len + 1) order ≡ push (key_in lent) (take len (take slots links)) made
-  pushed' = rw same at pushed
+  module _ {start : ℕ} (inside : start < n) (f : Float) where
+    pub begun_proper : (e : ℕ) → Proper n e slots (grown (cleared a m) start first f)
+    begun_proper e = (grown_kept (cleared_proper e) one inside first tt f).proper
 
-  full : length order ≡ slots
-  full = size' ∙ length-take-le slots links (omega (arith, ok.sized.order, halves_length slots links))
+    module _ (roads : ℕ → Road) where
+      none_reached : labels_of roads n a.real a.penalised (replicate m unreached) ≡ replicate n none
+      unfolding labels_of
+      none_reached = table_alike n (label_of roads a.real a.penalised (replicate m unreached)) none (λ k h. marked_none roads _ _ _ (unmarked k h))
 
-  agree : (j : ℕ) → j < made + 1 → key_in lent j ≡ key_in (set (take slots entries) made (y ⊕ far)) j
-  agree j h = sym (get_or-take slots lent j f0 (omega arith)) ∙ ap (λ (l : List Float). get_or l j f0) (first_half slots entries made (y ⊕ far) y spare)
+      no_entries : entries_of a.f_score a.g_score a.node 0 ≡ []
+      unfolding entries_of tabulate
+      no_entries = refl
 
-  split : after ≡ grown n e slots few a ok spare v inside k road x y far order size' lent agree pushed'
-  split = λ i. make_columns (first_half n labels v x y inside i) (second_half n labels v x y inside i) (set came v k) (first_half slots entries made (y ⊕ far) y spare i) (second_half slots entries made (y ⊕ far) y spare i)
-      ((second_kept slots (set links (slots + made) v) order full ∙ drop-set-add slots links made v) i) (first_lent slots (set links (slots + made) v) order full i) (len + 1) (made + 1)
+      alone : (key : ℕ → Float) → push key [] 0 ≡ 0 ∷ []
+      unfolding sift_up
+      alone key = refl
 
-  pub entered_kept : AreasKept n e slots a after
-  entered_kept = subst (AreasKept n e slots a) (sym split) (grown_kept n e slots few a ok spare v inside k road x y far order size' lent agree pushed')
+      pub begun_state : (q : Query) → q.nodes ≡ n → q.heuristic start ≡ f → state_of roads n (grown (cleared a m) start first f) ≡ begun q start
+      unfolding begun
+      begun_state q nodes far =
+          let ok = cleared_proper 0 in
+          let labels = grown_labels ok one inside first tt f roads ∙ rw (none_reached, nodes) refl in
+          let entries = grown_entries ok one inside first tt f roads ∙ rw (no_entries, far) refl in
+          λ i. record {
+            labels = labels i;
+            made = entries i;
+            heap = alone (key_in (set a.f_score 0 f)) i;
+          }
 
-  pub entered_state : (roads : ℕ → Road) (q : Query) → far ≡ q.heuristic v → some (state_of roads n after) ≡ entered slots q (state_of roads n a) v record { real = x; penalised = y; came_from = some (roads k) }
-  entered_state roads q is = ap (λ (b : Columns). some (state_of roads n b)) split ∙ grown_state n e slots few a ok spare v inside k road x y far order size' lent agree pushed' roads q is
+-- the only entry is in the heap
+pub begun_alone : (roads : ℕ → Road) (n : ℕ) (a : Columns) (q : Query) (start : ℕ) → state_of roads n a ≡ begun q start → length a.heap ≡ a.made
+unfolding begun
+begun_alone roads n a q start is = ap (λ (st : State). length st.heap) is ∙ sym (ap (λ (st : State). length st.made) is) ∙ entry_count a.f_score a.g_score a.node a.made

@@ -1,11 +1,13 @@
 -- The labels that the node areas stand for: one of them, after a store, and what a road offers one.
 use Prim.Native.Nat.{ℕ, ◌≤◌, ◌<◌}
-use mathlib.Core.Path.{◌≡◌, refl, sym, ◌∙◌}
-use mathlib.Core.Logic.{◌≢◌}
-use mathlib.Core.Bool.{Bool, true, false, ◌||◌}
+use mathlib.Core.Path.{◌≡◌, refl, sym, ap, ◌∙◌}
+use mathlib.Core.Logic.{inl, inr, ◌≢◌}
+use mathlib.Core.Bool.{Bool, true, false, cond, ◌||◌}
 use mathlib.Core.Option.{Option, none, some}
 use mathlib.Core.List.{List}
+use Rattle.std.specs.Prelude.{Option as Maybe, Some, None}
 use native.Mathlib.Omega.{arith}
+use lib.Dec.{eqb}
 use lib.ListN.{length, set}
 use lib.Seq.{get_or-set_same, get_or-set_other}
 use lib.Ieee.{Float, nan}
@@ -15,8 +17,9 @@ use Rattle.model.specs.Numbers.{◌⊕◌, ◌<ᶠ◌, ◌≤ᶠ◌}
 use Rattle.model.specs.Search.{Query, Label, Entry, label_at, real_of, dominated, stale, offered, came_from}
 use Rattle.model.proofs.Members.{getD_table}
 use Rattle.bounds.proofs.Turns.{offered_none, offered_some}
-use Rattle.search.specs.Areas.{unreached, start_mark, came_by, marked, label_of, labels_of}
-use Rattle.search.specs.Answers.{OfferFacts}
+use Rattle.search.specs.declared.areas.Label as code
+use Rattle.search.specs.Areas.{unreached, start_mark, came_by, marked, label_of, labels_of, label_as, mark_of, CameByRoad, MarkOrRoad}
+use Rattle.search.specs.Answers.{cost_of}
 use Rattle.search.proofs.Tables.{table_set}
 
 -- ---- a label by its mark
@@ -41,14 +44,6 @@ module _ (roads : ℕ → Road) (x y : Float) (k : ℕ) where
   unfolding stale
   stale_reached g h = rw (marked_some h)
 
-  pub dominated_none : (g : Float) → k ≡ unreached → dominated (marked roads x y k) g ≡ false
-  unfolding dominated
-  dominated_none g h = rw (marked_none h)
-
-  pub dominated_some : (g : Float) → k ≢ unreached → dominated (marked roads x y k) g ≡ (y ≤ᶠ g)
-  unfolding dominated
-  dominated_some g h = rw (marked_some h)
-
   -- the road that it came by
   pub came_road : k ≢ unreached → k ≢ start_mark → came_from (marked roads x y k) ≡ some (roads k)
   unfolding came_from came_by
@@ -62,40 +57,66 @@ module _ (roads : ℕ → Road) (x y : Float) (k : ℕ) where
   unfolding came_from
   came_unreached h = rw (marked_none h)
 
+-- its penalised cost
+pub marked_cost : (roads : ℕ → Road) (x y : Float) (k : ℕ) → cost_of (marked roads x y k) ≡ cond (eqb k unreached) None (Some y)
+unfolding marked
+marked_cost roads x y k = go (eqb k unreached)
+  where
+    go : (b : Bool) → cost_of (cond b none (some (reached_label roads x y k))) ≡ cond b None (Some y)
+    go true = refl
+    go false = refl
+
+-- the label that a label of the code leaves
+pub label_left : (roads : ℕ → Road) (l : code.Label) (e : ℕ) → CameByRoad e l.came_from → marked roads l.real l.penalised (mark_of l.came_from) ≡ some (label_as roads l)
+unfolding came_by
+label_left roads l e by = go l.came_from by
+  where
+    go : (o : Maybe ℕ) → CameByRoad e o → marked roads l.real l.penalised (mark_of o) ≡ some (label_as roads record l { came_from = o })
+    go None by = marked_some roads l.real l.penalised start_mark (λ z. omega arith)
+    go (Some k) by = marked_some roads l.real l.penalised k (λ z. omega arith) ∙ rw (ne_eqb k start_mark (λ z. omega arith))
+
+-- it is reached
+pub mark_reaches : (e : ℕ) (o : Maybe ℕ) → CameByRoad e o → (mark_of o ≢ unreached) × MarkOrRoad e (mark_of o)
+mark_reaches e None by = (λ z. omega arith, inr (inl refl))
+mark_reaches e (Some k) by = (λ z. omega arith, inr (inr by.0))
+
 -- ---- what a road offers
 
-module _ {q : Query} {e : Entry} {ls : List (Option Label)} {r : Road} {bound real cost extra penalised : Float} {mark : ℕ} (s : OfferFacts q e ls r bound real cost extra penalised mark) where
-  abbrev a : Float
-  a = real ⊕ r.length_m
+-- the penalised cost that is there
+module _ (l : Option Label) {there : Maybe Float} (is : cost_of l ≡ there) (g : Float) where
+  pub none_there : there ≡ None → dominated l g ≡ false
+  unfolding dominated
+  none_there h = go l (is ∙ h)
+    where
+      go : (l : Option Label) → cost_of l ≡ None → dominated l g ≡ false
+      go none e = refl
+      go (some l) e = cc
 
+  pub some_there : {y : Float} → there ≡ Some y → dominated l g ≡ (y ≤ᶠ g)
+  unfolding dominated
+  some_there {y} h = go l (is ∙ h)
+    where
+      go : (l : Option Label) → cost_of l ≡ Some y → dominated l g ≡ (y ≤ᶠ g)
+      go none e = cc
+      go (some l) e = ap (λ (x : Float). x ≤ᶠ g) (cc e)
+
+module _ (q : Query) (x : Entry) (ls : List (Option Label)) (r : Road) {real : Float} (real_is : real_of (label_at ls x.node) ≡ real) where
   abbrev b : Float
-  b = cost ⊕ r.length_m ⊕ extra
+  b = x.g_score ⊕ r.length_m ⊕ q.penalty r
 
-  -- the two tests by which an offer is refused
-  long : (q.max_cost <ᶠ (real_of (label_at ls e.node) ⊕ r.length_m)) ≡ (bound <ᶠ a)
-  long = rw (s.max_cost_is, s.real_is)
+  pub offer_long : (q.max_cost <ᶠ (real ⊕ r.length_m)) ≡ true → none ≡ offered q x ls r
+  offer_long h = sym (offered_none q x ls r (rw (real_is, h)))
 
-  worse : (t : Bool) → dominated (marked s.roads s.its_real penalised mark) b ≡ t → dominated (label_at ls r.target) (e.g_score ⊕ r.length_m ⊕ q.penalty r) ≡ t
-  worse t h = rw (s.g_score_is, s.extra_is, s.label_is) h
-
-  pub offer_long : (bound <ᶠ a) ≡ true → none ≡ offered q e ls r
-  offer_long h = sym (offered_none q e ls r (rw (long ∙ h)))
-
-  pub offer_worse : mark ≢ unreached → (penalised ≤ᶠ b) ≡ true → none ≡ offered q e ls r
-  offer_worse h k = sym (offered_none q e ls r (rw (worse true (dominated_some s.roads s.its_real penalised mark b h ∙ k)) (either_true (q.max_cost <ᶠ (real_of (label_at ls e.node) ⊕ r.length_m)))))
+  pub offer_worse : dominated (label_at ls r.target) b ≡ true → none ≡ offered q x ls r
+  offer_worse h = sym (offered_none q x ls r (rw h (either_true (q.max_cost <ᶠ (real_of (label_at ls x.node) ⊕ r.length_m)))))
     where
       either_true : (t : Bool) → (t || true) ≡ true
       either_true true = refl
       either_true false = refl
 
-  taken : (bound <ᶠ a) ≡ false → dominated (marked s.roads s.its_real penalised mark) b ≡ false → some record { real = a; penalised = b; came_from = some r } ≡ offered q e ls r
-  taken h k = sym (offered_some q e ls r (rw (long ∙ h, worse false k)) ∙ rw (s.real_is, s.g_score_is, s.extra_is))
-
-  pub offer_fresh : (bound <ᶠ a) ≡ false → mark ≡ unreached → some record { real = a; penalised = b; came_from = some r } ≡ offered q e ls r
-  offer_fresh h k = taken h (dominated_none s.roads s.its_real penalised mark b k)
-
-  pub offer_better : (bound <ᶠ a) ≡ false → mark ≢ unreached → (penalised ≤ᶠ b) ≡ false → some record { real = a; penalised = b; came_from = some r } ≡ offered q e ls r
-  offer_better h j k = taken h (dominated_some s.roads s.its_real penalised mark b j ∙ k)
+  pub offer_better : (q.max_cost <ᶠ (real ⊕ r.length_m)) ≡ false → dominated (label_at ls r.target) b ≡ false → {road : Road} → road ≡ r
+      → some record { real = real ⊕ r.length_m; penalised = b; came_from = some road } ≡ offered q x ls r
+  offer_better h k is = sym (offered_some q x ls r (rw (real_is, h, k)) ∙ rw (real_is, is))
 
 -- ---- the labels of all nodes
 

@@ -1,13 +1,10 @@
 pub mod Tables
-pub mod Halves
 pub mod Labels
 pub mod Entries
-pub mod Beginning
-pub mod Turned
-pub mod Walks
-pub mod Roads
 pub mod Growth
+pub mod Roads
 pub mod Relaxing
 pub mod Visits
 pub mod Runs
+pub mod Walks
 pub mod Whole

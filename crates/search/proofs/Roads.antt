@@ -1,18 +1,17 @@
 -- The roads of a well-formed sheet, and the ways that a search over it is given.
 use Prim.Native.Nat.{ℕ, ◌+◌, ◌-◌, ◌≤◌, ◌<◌}
-use mathlib.Core.Path.{◌≡◌, refl, sym, ap, ◌∙◌, subst}
+use mathlib.Core.Path.{◌≡◌, sym, ap, ◌∙◌}
 use mathlib.Core.List.{List}
+use Rattle.std.specs.Prelude.{Some, None}
 use lib.ListN.{get_or}
-use lib.Ieee.{Float}
 use Rattle.model.specs.declared.Counts.{Counts}
 use Rattle.model.specs.declared.Road.{Road}
 use Rattle.model.specs.Numbers.{f0}
 use Rattle.model.specs.Layout.{most_roads}
 use Rattle.model.specs.Lists.{filter, tabulate}
 use Rattle.model.specs.Judge.{WellFormed, source_of, start_of, entry_of}
-use Rattle.model.specs.Sheet.{MeasuredPoint, Sheet, sheet_of, road_at, leaving_roads}
-use Rattle.model.specs.View.{is_slip, permits, penalty, limits_of, leg_of, view}
-use Rattle.model.specs.Decode.{query_of}
+use Rattle.model.specs.Sheet.{sheet_of, road_at, leaving_roads}
+use Rattle.model.specs.View.{is_slip, permits, penalty}
 use Rattle.model.proofs.Members.{either, in_keep}
 use Rattle.model.proofs.Fields.{source_below}
 use Rattle.model.proofs.Parsed.{number_is, source_is}
@@ -21,13 +20,13 @@ use Rattle.bounds.specs.Routes.{Ways}
 use Rattle.bounds.proofs.AmountLaws.{finite_amount, zero_amount}
 use Rattle.bounds.proofs.FormedProof.{well_formed_formed}
 use Rattle.bounds.proofs.Sources.{leaving_road}
-use Rattle.sheet.specs.declared.distances.GoalRow.{GoalRow}
-use Rattle.sheet.specs.declared.distances.GoalRow.TheVariants.{At, Missing}
-use Rattle.sheet.specs.Goals.{goal_at, GoalOf}
+use Rattle.sheet.specs.Contents.{contents}
+use Rattle.sheet.specs.Goals.{goal_at}
 use Rattle.sheet.proofs.Parts.{leaving_are}
 use Rattle.sheet.proofs.GoalLaws.{to_goal_at, to_goal_missing}
 use Rattle.search.specs.declared.Query.{Query}
-use Rattle.search.specs.Query.{query_on, QueryReady}
+use Rattle.search.specs.declared.costs.Search.{Search}
+use Rattle.search.specs.Query.{query_on, query_at}
 
 module _ (s : List ℕ) (c : Counts) (w : WellFormed s c) where
   -- a mark is no road's number
@@ -70,25 +69,12 @@ module _ (s : List ℕ) (c : Counts) (w : WellFormed s c) where
   pub access_amount : Amount (sheet_of s c).settings.access_road_cost_penalty
   access_amount = finite_amount _ (well_formed_formed s c w).access
 
--- The query of a leg, when the code's query has the leg's constraints.
-pub query_leg : (t : Sheet) (p : MeasuredPoint) (start goal : ℕ) (bound : Float)
-    → query_on t record { start = start; goal = goal; max_cost = bound; constraints = (limits_of t.settings p.point).constraints }
-    ≡ query_of (view t) (leg_of t p) goal bound
-unfolding query_on query_of view
-query_leg t p start goal bound = refl
-
 -- The goal's row has the distances of the query.
-module _ {s : List ℕ} {c : Counts} {a : Query} {row : GoalRow} (ready : QueryReady s c a row) where
-  row_known : {r : GoalRow} → row ≡ r → GoalOf (sheet_of s c) c a.goal r
-  row_known is = subst (GoalOf (sheet_of s c) c a.goal) is ready.goal_row
-
-  pub row_below : {k : ℕ} → row ≡ At k → k < c.g
-  row_below is = (row_known is).0
-
-  pub heuristic_at : {k : ℕ} → row ≡ At k → (v : ℕ) → get_or (goal_at (sheet_of s c) k).distances v f0 ≡ (query_on (sheet_of s c) a).heuristic v
+module _ (x : Search) where
+  pub heuristic_at : {k : ℕ} → x.goal_row ≡ Some k → (v : ℕ) → get_or (goal_at (contents x.sheet) k).distances v f0 ≡ (query_at x).heuristic v
   unfolding query_on
-  heuristic_at {k} is v = to_goal_at (sheet_of s c) a.goal k (row_known is).1 v
+  heuristic_at {k} is v = to_goal_at (contents x.sheet) x.query.goal k (x.row k is).1 v
 
-  pub heuristic_missing : row ≡ Missing → (v : ℕ) → f0 ≡ (query_on (sheet_of s c) a).heuristic v
+  pub heuristic_missing : x.goal_row ≡ None → (v : ℕ) → f0 ≡ (query_at x).heuristic v
   unfolding query_on
-  heuristic_missing is v = to_goal_missing (sheet_of s c) a.goal (row_known is) v
+  heuristic_missing is v = to_goal_missing (contents x.sheet) x.query.goal (x.no_row is) v

@@ -1,150 +1,101 @@
 -- The turns one after the other are the definition's run; as many are left as there are entries in the heap and free slots.
-use Prim.Native.Nat.{ℕ, zero, suc, ◌+◌, ◌-◌, ◌≤◌, ◌<◌}
+use Prim.Native.Nat.{ℕ, zero, suc, ◌+◌, ◌-◌, ◌<◌}
 use mathlib.Core.Path.{◌≡◌, refl, sym, ap, ◌∙◌, subst}
+use mathlib.Core.List.Memᴰ
 use mathlib.Core.List.{List, [], ◌∷◌}
 use native.Mathlib.Omega.{arith}
-use lib.ListN.{length, get_or, take}
-use lib.Ieee.{Float}
+use lib.ListN.{length}
+use Rattle.std.specs.Prelude.{Some, None, option_map, slice_get}
 use Rattle.model.specs.declared.Road.{Road}
+use Rattle.model.specs.Lists.{In}
 use Rattle.model.specs.Heap.{pop}
-use Rattle.model.specs.Search.{Query, SearchEnd, none_found, Entry, State, entry_at, f_score_of, Step, visit, take_step, onward, run}
+use Rattle.model.specs.Search.{Query, SearchEnd, none_found, State, entry_at, f_score_of, Step, stop, more, visit, take_step, onward, run}
+use Rattle.model.specs.Search as astar
+use Rattle.bounds.proofs.HeapLaws.{length_pop}
 use Rattle.heap.specs.Keys.{key_in}
-use Rattle.search.specs.declared.turns.Progress.{Progress}
-use Rattle.search.specs.declared.turns.Progress.TheVariants as P
-use Rattle.search.specs.Areas.{labels_of, heap_entry, Columns, make_columns, state_of, SameSizes, Proper}
-use Rattle.search.specs.Answers.{step_of, AfterVisit, SearchState, end_of_search}
+use Rattle.search.specs.declared.areas.Entry.{Entry}
+use Rattle.search.specs.Areas.{Columns, state_of, entry_in, Reached, Proper, AreasKept}
+use Rattle.search.specs.Answers.{entry_as}
 use Rattle.search.proofs.Entries.{entry_is, heap_pop, pop_below}
-use Rattle.search.proofs.Growth.{sizes_on, reordered}
 
--- ---- the entry that a turn takes
+-- From the areas a the search comes to `end`.
+pub record Running (n e slots : ℕ) (q : Query) (roads : ℕ → Road) (end : ℕ → SearchEnd) (a : Columns) : Type 0 where
+  pub proper : Proper n e slots a
+  pub same : (steps : ℕ) → run steps (slots + length a.heap - a.made) slots q (state_of roads n a) ≡ end steps
 
-module _ {n e slots : ℕ} {a : Columns} (ok : Proper n e slots a) (some_left : 0 < a.len) (order : List ℕ) (size : length order ≡ length a.order) where
-  abbrev pub popped : Columns
-  popped = make_columns a.real a.penalised a.came a.f_score a.g_score a.node order (a.len - 1) a.made
-
-  fits : a.len ≤ length a.order
-  fits = omega (arith, ok.sized.order, ok.fewer, ok.room)
-
-  module _ (lent : List Float) (agree : (j : ℕ) → j < a.made → key_in lent j ≡ key_in a.f_score j) (is : take (a.len - 1) order ≡ pop (key_in lent) (take a.len a.order)) where
-    pub popped_proper : Proper n e slots popped
-    popped_proper =
-        reordered ok order (a.len - 1) size (omega (arith, ok.fewer))
-        (pop_below a.f_score a.g_score a.node a.made a.order order a.len (omega (arith, ok.sized.f_score, ok.room)) fits lent agree ok.numbers is (omega (arith, fits)))
-
-    module _ (roads : ℕ → Road) (steps : ℕ) (q : Query) {k : ℕ} (top : k ≡ get_or a.order 0 0) where
-      abbrev st : State
-      st = state_of roads n a
-
-      pub top_below : k < a.made
-      top_below = rw top (ok.numbers 0 some_left)
-
-      heap_is : (h : List ℕ) → 0 < a.len → a.len ≤ length h → (x : ℕ) × (xs : List ℕ) × (take a.len h ≡ x ∷ xs) × (x ≡ get_or h 0 0)
-      heap_is [] p f = absurd (omega arith)
-      heap_is (y ∷ ys) p f = go a.len p
-        where
-          go : (m : ℕ) → 0 < m → (x : ℕ) × (xs : List ℕ) × (take m (y ∷ ys) ≡ x ∷ xs) × (x ≡ y)
-          go zero p = absurd (omega arith)
-          go (suc m) p = (y, take m ys, refl, refl)
-
-      -- the entry that stands first is taken
-      take_is : take_step steps slots q st.heap st ≡ visit steps slots q (heap_entry a.f_score a.g_score a.node k) (state_of roads n popped)
-      unfolding take_step
-      take_is =
-          let h = heap_is a.order some_left fits in
-          let first : h.0 ≡ k = h.3 ∙ sym top in
-          ap (λ (l : List ℕ). take_step steps slots q l st) h.2
-          ∙ ap (λ (x : Entry). visit steps slots q x record { labels = st.labels; made = st.made; heap = pop (f_score_of st.made) st.heap }) (ap (entry_at st.made) first ∙ entry_is a.f_score a.g_score a.node a.made k top_below)
-          ∙ ap (λ (l : List ℕ). visit steps slots q (heap_entry a.f_score a.g_score a.node k) record { labels = st.labels; made = st.made; heap = l })
-          (sym (heap_pop a.f_score a.g_score a.node a.made a.order order a.len (omega (arith, ok.sized.f_score, ok.room)) fits lent agree ok.numbers is))
-
--- ---- the loop
-
--- From the areas a with this progress the search comes to `end`; those at the beginning were a₀.
-pub record Running (n e slots goal : ℕ) (q : Query) (roads : ℕ → Road) (end : ℕ → SearchEnd) (a₀ : Columns) (p : Progress) (a : Columns) : Type 0 where
-  pub sizes : SameSizes a₀ a
-  pub stands : SearchState n e slots goal p a
-  pub same : (steps : ℕ) → onward (step_of steps q p (state_of roads n a)) (run steps (slots + a.len - a.made) slots q) ≡ end steps
-
--- the progress of a search that has not ended
-still_looking : (n e slots goal : ℕ) (p : Progress) (a : Columns) → SearchState n e slots goal p a → 0 < a.len → p ≡ P.Looking
-still_looking n e slots goal P.Looking a h l = refl
-still_looking n e slots goal P.Found a h l = absurd (omega (arith, h.2))
-still_looking n e slots goal P.Full a h l = absurd (omega (arith, h.1))
-
-pub run_start : {n e slots goal : ℕ} {q : Query} {roads : ℕ → Road} {a : Columns} → a.len ≡ a.made → SameSizes a a → Proper n e slots a → Running n e slots goal q roads (λ steps. run steps slots slots q (state_of roads n a)) a P.Looking a
-unfolding onward
-run_start {n} {slots} {q} {roads} {a} one sizes ok = record {
-  sizes = sizes;
-  stands = ok;
-  same = λ steps. ap (λ (k : ℕ). run steps k slots q (state_of roads n a)) {x = slots + a.len - a.made} {y = slots} (omega arith);
-}
-
-module _ {n e slots goal : ℕ} {q : Query} {roads : ℕ → Road} {end : ℕ → SearchEnd} {a₀ a : Columns} {p : Progress} (w : Running n e slots goal q roads end a₀ p a) where
+module _ {n e slots : ℕ} {q : Query} {roads : ℕ → Road} {end : ℕ → SearchEnd} {a : Columns} (w : Running n e slots q roads end a) where
   -- the heap is empty
-  pub run_end : a.len ≤ 0 → (steps : ℕ) → end_of_search steps q p (labels_of roads n a.real a.penalised a.came) ≡ end steps
-  unfolding onward run take_step
-  run_end h steps = go p (w.same steps)
+  pub run_end : None ≡ option_map (entry_in a) (slice_get a.heap 0) → (steps : ℕ) → none_found ≡ end steps
+  unfolding run onward take_step
+  run_end is steps = go a.heap is (slots + length a.heap - a.made) (w.same steps)
     where
-      empty : (k : ℕ) → none_found ≡ run steps k slots q (state_of roads n a)
-      empty zero = refl
-      empty (suc k) = sym (ap (λ (m : ℕ). onward (take_step steps slots q (take m a.order) (state_of roads n a)) (run steps k slots q)) {x = a.len} {y = 0} (omega arith))
+      go : (heap : List ℕ) → None ≡ option_map (entry_in a) (slice_get heap 0) → (k : ℕ) → run steps k slots q (state_of roads n record a { heap = heap }) ≡ end steps → none_found ≡ end steps
+      go [] is zero same = same
+      go [] is (suc k) same = same
+      go (x ∷ heap) is k same = cc
 
-      go : (p : Progress) → onward (step_of steps q p (state_of roads n a)) (run steps (slots + a.len - a.made) slots q) ≡ end steps → end_of_search steps q p (labels_of roads n a.real a.penalised a.came) ≡ end steps
-      go P.Looking same = empty (slots + a.len - a.made) ∙ same
-      go P.Found same = same
-      go P.Full same = same
+  -- the entry that stands first is taken out
+  module _ {entry : Entry} (top : Some entry ≡ option_map (entry_in a) (slice_get a.heap 0)) {rest : Columns} (popped : rest ≡ record a { heap = pop (key_in a.f_score) a.heap }) where
+    left_heap : length rest.heap ≡ length a.heap - 1
+    left_heap = ap (λ (b : Columns). length b.heap) popped ∙ length_pop (key_in a.f_score) a.heap
 
-  -- an entry is left: the one that stands first, k, is taken out and visited
-  module _ (some_left : 0 < a.len) where
-    looking : p ≡ P.Looking
-    looking = still_looking n e slots goal p a w.stands some_left
+    first : (k : ℕ) × (others : List ℕ) × (a.heap ≡ k ∷ others) × (entry ≡ entry_in a k)
+    first = go a.heap top
+      where
+        go : (heap : List ℕ) → Some entry ≡ option_map (entry_in a) (slice_get heap 0) → (k : ℕ) × (others : List ℕ) × (heap ≡ k ∷ others) × (entry ≡ entry_in a k)
+        go [] is = absurd (cc)
+        go (k ∷ others) is = (k, others, refl, cc)
 
-    pub looking_proper : Proper n e slots a
-    looking_proper = subst (λ (x : Progress). SearchState n e slots goal x a) looking w.stands
+    made_before : first.0 < a.made
+    made_before = w.proper.numbers first.0 (subst (In first.0) (sym first.2) (Memᴰ.head refl))
 
-    module _ (order : List ℕ) (size : length order ≡ length a.order) (lent : List Float) (agree : (j : ℕ) → j < a.made → key_in lent j ≡ key_in a.f_score j) {k : ℕ}
-        (is : (k ≡ get_or a.order 0 0) × (take (a.len - 1) order ≡ pop (key_in lent) (take a.len a.order))) where
-      module _ {rest : Columns} (split : rest ≡ popped looking_proper some_left order size) where
-        pub rest_proper : Proper n e slots rest
-        rest_proper = subst (Proper n e slots) (sym split) (popped_proper looking_proper some_left order size lent agree is.1)
+    pub taken_node : (entry.node < n) × Reached rest entry.node
+    taken_node = rw (popped, first.3) (w.proper.nodes first.0 made_before, w.proper.reached first.0 made_before)
 
-        pub taken_below : k < a.made
-        taken_below = top_below looking_proper some_left order size lent agree is.1 roads 0 q is.0
+    pub rest_proper : Proper n e slots rest
+    rest_proper = rw popped record {
+      sized = record { real = w.proper.sized.real; penalised = w.proper.sized.penalised; came = w.proper.sized.came; f_score = w.proper.sized.f_score; g_score = w.proper.sized.g_score; node = w.proper.sized.node };
+      fewer = omega (arith, length_pop (key_in a.f_score) a.heap, w.proper.fewer);
+      room = w.proper.room;
+      numbers = pop_below (key_in a.f_score) a.heap a.made w.proper.numbers;
+      nodes = w.proper.nodes;
+      reached = w.proper.reached;
+      marks = w.proper.marks;
+    }
 
-        module _ (p' : Progress) (b : Columns) (went : AfterVisit n e slots goal rest p' b) where
-          -- the turns that are left afterwards count only where it looks on
-          turns_after : (steps : ℕ) → onward (step_of steps q p' (state_of roads n b)) (run steps (slots + b.len - b.made) slots q) ≡ onward (step_of steps q p' (state_of roads n b)) (run steps (slots + (a.len - 1) - a.made) slots q)
-          unfolding onward
-          turns_after steps = go p' went
-            where
-              go : (p' : Progress) → AfterVisit n e slots goal rest p' b → onward (step_of steps q p' (state_of roads n b)) (run steps (slots + b.len - b.made) slots q) ≡ onward (step_of steps q p' (state_of roads n b)) (run steps (slots + (a.len - 1) - a.made) slots q)
-              go P.Looking h = ap (λ (m : ℕ). run steps m slots q (state_of roads n b)) {x = slots + b.len - b.made} {y = slots + (a.len - 1) - a.made} (omega (arith, h.gone, ap (λ (b : Columns). b.len) split, ap (λ (b : Columns). b.made) split, h.proper.room, looking_proper.room))
-              go P.Found h = refl
-              go P.Full h = refl
+    -- it is visited
+    taken : (steps : ℕ) → take_step steps slots q a.heap (state_of roads n a) ≡ visit steps slots q (entry_as entry) (state_of roads n rest)
+    unfolding take_step
+    taken steps =
+        let st = state_of roads n a in
+        ap (λ (heap : List ℕ). take_step steps slots q heap st) first.2
+        ∙ ap (λ (x : astar.Entry). visit steps slots q x record st { heap = pop (f_score_of st.made) a.heap }) (entry_is a.f_score a.g_score a.node a.made first.0 made_before ∙ ap entry_as (sym first.3))
+        ∙ ap (λ (heap : List ℕ). visit steps slots q (entry_as entry) record st { heap = heap }) (sym (heap_pop a.f_score a.g_score a.node a.made a.heap w.proper.numbers))
+        ∙ ap (λ (b : Columns). visit steps slots q (entry_as entry) (state_of roads n b)) (sym popped)
 
-          pub run_turn : SameSizes a b → ((steps : ℕ) → step_of steps q p' (state_of roads n b) ≡ visit steps slots q (heap_entry rest.f_score rest.g_score rest.node k) (state_of roads n rest)) → Running n e slots goal q roads end a₀ p' b
-          unfolding run onward
-          run_turn sizes visited = record {
-            sizes = sizes_on w.sizes sizes;
-            stands = state_after_visit p' went;
-            same = λ steps.
-                let left = slots + (a.len - 1) - a.made in
-                let more_left : slots + a.len - a.made ≡ suc left = omega (arith, looking_proper.room) in
-                let old : onward (step_of steps q P.Looking (state_of roads n a)) (run steps (suc left) slots q) ≡ end steps = rw (looking, more_left) at (w.same steps) in
-                turns_after steps
-                ∙ ap (λ (s : Step). onward s (run steps left slots q)) (visited steps ∙ ap (λ (b : Columns). visit steps slots q (heap_entry b.f_score b.g_score b.node k) (state_of roads n b)) split ∙ sym (take_is looking_proper some_left order size lent agree is.1 roads steps q is.0))
-                ∙ old;
-          }
-            where
-              state_after_visit : (p' : Progress) → AfterVisit n e slots goal rest p' b → SearchState n e slots goal p' b
-              state_after_visit P.Looking h = h.proper
-              state_after_visit P.Found h = (h.0, h.1, h.2)
-              state_after_visit P.Full h = (h.0, h.1)
+    abbrev left : ℕ
+    left = slots + length rest.heap - a.made
 
-          pub run_less : slots + b.len - b.made < slots + a.len - a.made
-          run_less = go p' went
-            where
-              go : (p' : Progress) → AfterVisit n e slots goal rest p' b → slots + b.len - b.made < slots + a.len - a.made
-              go P.Looking h = omega (arith, h.gone, ap (λ (b : Columns). b.len) split, ap (λ (b : Columns). b.made) split, h.proper.room, looking_proper.room)
-              go P.Found h = omega (arith, h.2, h.3, ap (λ (b : Columns). b.made) split, looking_proper.room)
-              go P.Full h = omega (arith, h.1, h.2, ap (λ (b : Columns). b.made) split, looking_proper.room)
+    turn : (steps : ℕ) → onward (visit steps slots q (entry_as entry) (state_of roads n rest)) (run steps left slots q) ≡ end steps
+    unfolding run
+    turn steps =
+        let one : slots + length a.heap - a.made ≡ suc left = omega (arith, left_heap, ap length first.2, w.proper.room) in
+        ap (λ (s : Step). onward s (run steps left slots q)) (sym (taken steps)) ∙ (rw one at (w.same steps))
+
+    pub run_stop : (steps : ℕ) {found : SearchEnd} → stop found ≡ visit steps slots q (entry_as entry) (state_of roads n rest) → found ≡ end steps
+    unfolding onward
+    run_stop steps is = ap (λ (s : Step). onward s (run steps left slots q)) is ∙ turn steps
+
+    module _ {b : Columns} (kept : AreasKept n e slots rest b) where
+      fewer_left : slots + length b.heap - b.made ≡ left
+      fewer_left = omega (arith, kept.gone, kept.proper.room, w.proper.room, ap (λ (b : Columns). b.made) popped)
+
+      pub run_on : ((steps : ℕ) → more (state_of roads n b) ≡ visit steps slots q (entry_as entry) (state_of roads n rest)) → Running n e slots q roads end b
+      unfolding onward
+      run_on is = record {
+        proper = kept.proper;
+        same = λ steps. ap (λ (k : ℕ). run steps k slots q (state_of roads n b)) fewer_left ∙ ap (λ (s : Step). onward s (run steps left slots q)) (is steps) ∙ turn steps;
+      }
+
+      pub run_less : slots + length b.heap - b.made < slots + length a.heap - a.made
+      run_less = omega (arith, fewer_left, left_heap, ap length first.2, w.proper.room)

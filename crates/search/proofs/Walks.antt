@@ -5,7 +5,7 @@ use mathlib.Core.Logic.{inl, inr, ◌≢◌}
 use mathlib.Core.Option.{Option, none, some}
 use mathlib.Core.List.{List, [], ◌∷◌, ◌++◌, map, append-nil}
 use native.Mathlib.Omega.{arith}
-use lib.ListN.{length, get_or, set, take, drop, length-drop, length-append, length-map}
+use lib.ListN.{length, get_or, set, take, drop, length-append, length-map}
 use lib.Seq.{length-take-le, take-suc, append_snoc, set_at}
 use lib.Ieee.{Float, nan}
 use Rattle.model.specs.declared.Road.{Road}
@@ -14,10 +14,8 @@ use Rattle.model.specs.Search.{found, Label, label_at, real_of, came_from, trace
 use Rattle.bounds.proofs.Choices.{below_or_not}
 use Rattle.bounds.proofs.Traces.{trace_ends, trace_goes}
 use Rattle.search.specs.declared.SearchEnd.TheVariants as S
-use Rattle.search.specs.declared.turns.Progress.{Progress}
-use Rattle.search.specs.declared.turns.Progress.TheVariants as P
-use Rattle.search.specs.Areas.{unreached, labels_of, MarkOrRoad, EndsWithin, Back, back_way, LeadsBack}
-use Rattle.search.specs.Answers.{GoalReached, told}
+use Rattle.search.specs.Areas.{unreached, labels_of, MarkOrRoad, EndsWithin, back_way, LeadsBack}
+use Rattle.search.specs.Answers.{told}
 use Rattle.search.proofs.Labels.{label_is, real_reached, came_road, came_start, came_unreached}
 
 -- i roads were walked over, and the trace from the node whose mark is k has those in front
@@ -69,21 +67,6 @@ module _ (n e : ℕ) (roads : ℕ → Road) (came : List ℕ) (few : e ≤ most_
         ends_there j r.source (r ∷ path) (within (get_or came v 0) p) (sym (trace_goes ls v path (suc j) r by) ∙ same ∙ trace_goes ls v path j r by)
 
   -- ---- the loop
-
-  pub walk_start : (goal : ℕ) → goal < n → EndsWithin roads e came (n - 1) goal → Walking n e roads came goal 0 (get_or came goal 0)
-  walk_start goal h ends =
-      let all : n - 1 ≡ n - 1 - 0 = omega arith in
-      record {
-        node = goal;
-        inside = h;
-        mark = refl;
-        to = omega arith;
-        ends = subst (λ (j : ℕ). EndsWithin roads e came j goal) all ends;
-        walked = [];
-        leads = λ j l. subst (λ (m : ℕ). LeadsBack roads e came m goal) {x = j} {y = 0 + j} (omega arith) l;
-        all = λ j. ap (λ (m : ℕ). back_way roads came m goal) {x = 0 + j} {y = j} (omega arith) ∙ sym (append-nil (back_way roads came j goal));
-        same = λ real penalised. ap (λ (j : ℕ). trace j (labels_of roads n real penalised came) goal []) (sym all);
-      }
 
   module _ {goal i k : ℕ} (w : Walking n e roads came goal i k) where
     -- all roads back were walked over
@@ -148,8 +131,8 @@ pub record Backed (e : ℕ) (roads : ℕ → Road) (came : List ℕ) (nodes goal
   pub all : back_way roads came n goal ≡ back_way roads came i v ++ walked
 
 module _ (e : ℕ) (roads : ℕ → Road) (came : List ℕ) (nodes goal n : ℕ) where
-  pub back_start : goal < nodes → LeadsBack roads e came n goal → Backed e roads came nodes goal n [] n goal
-  back_start h leads = record { inside = h; fewer = omega arith; leads = leads; all = sym (append-nil (back_way roads came n goal)) }
+  pub back_start : {i : ℕ} → i ≡ n → goal < nodes → LeadsBack roads e came n goal → Backed e roads came nodes goal n [] i goal
+  back_start all h leads = record { inside = h; fewer = omega arith; leads = rw all leads; all = rw all (sym (append-nil (back_way roads came n goal))) }
 
   module _ {walked : List ℕ} {i v : ℕ} (w : Backed e roads came nodes goal n walked i v) where
     pub back_mark : 0 < i → get_or came v 0 < e
@@ -160,38 +143,25 @@ module _ (e : ℕ) (roads : ℕ → Road) (came : List ℕ) (nodes goal n : ℕ)
         go zero p l = absurd (omega arith)
         go (suc j) p l = l.0
 
-    pub back_step : {u : ℕ} → 0 < i → u ≡ (roads (get_or came v 0)).source → u < nodes → Backed e roads came nodes goal n (get_or came v 0 ∷ walked) (i - 1) u
+    pub back_step : {j u : ℕ} → i ≡ suc j → u ≡ (roads (get_or came v 0)).source → u < nodes → Backed e roads came nodes goal n (get_or came v 0 ∷ walked) j u
     unfolding LeadsBack back_way
-    back_step {u} h is below = go i refl w.leads w.all
-      where
-        go : (m : ℕ) → i ≡ m → LeadsBack roads e came m v → back_way roads came n goal ≡ back_way roads came m v ++ walked → Backed e roads came nodes goal n (get_or came v 0 ∷ walked) (i - 1) u
-        go zero z l all = absurd (omega arith)
-        go (suc j) z l all =
-            let k = get_or came v 0 in
-            let less : j ≡ i - 1 = omega arith in
-            record {
-              inside = below;
-              fewer = omega (arith, w.fewer);
-              leads = subst (λ (x : ℕ). LeadsBack roads e came x u) less (subst (λ (x : ℕ). LeadsBack roads e came j x) (sym is) l.1);
-              all =
-                  all
-                  ∙ append_snoc (back_way roads came j (roads k).source) k walked
-                  ∙ ap (λ (x : ℕ). back_way roads came j x ++ k ∷ walked) (sym is)
-                  ∙ ap (λ (x : ℕ). back_way roads came x u ++ k ∷ walked) less;
-            }
+    back_step {j} more is below =
+        let k = get_or came v 0 in
+        let leads = rw more at w.leads in
+        let all = rw more at w.all in
+        record {
+          inside = below;
+          fewer = omega (arith, w.fewer);
+          leads = rw is leads.1;
+          all = all ∙ append_snoc (back_way roads came j (roads k).source) k walked ∙ rw is;
+        }
 
     pub back_end : i ≡ 0 → back_way roads came n goal ≡ walked
     unfolding back_way
     back_end z = w.all ∙ ap (λ (x : ℕ). back_way roads came x v ++ walked) z
 
-    pub back_left : i + length walked ≡ n
-    back_left = omega (arith, ap length w.all, length-append (back_way roads came i v) walked, back_size roads came n goal, back_size roads came i v)
-
 -- those walked over stand in `out` from place i on
 module _ (out₀ walked out : List ℕ) (n i : ℕ) (fewer : i ≤ n) (room : n ≤ length out₀) (is : out ≡ take i out₀ ++ (walked ++ drop n out₀)) where
-  pub out_size : i + length walked ≡ n → length out ≡ length out₀
-  out_size all = omega (arith, ap length is, length-append (take i out₀) (walked ++ drop n out₀), length-append walked (drop n out₀), length-take-le i out₀ (omega arith), length-drop n out₀)
-
   pub out_end : {all : List ℕ} → i ≡ 0 → all ≡ walked → out ≡ all ++ drop n out₀
   out_end z same = is ∙ ap (λ (m : ℕ). take m out₀ ++ (walked ++ drop n out₀)) z ∙ ap (λ (xs : List ℕ). xs ++ drop n out₀) (sym same)
 
@@ -205,18 +175,12 @@ module _ (out₀ walked out : List ℕ) (n i : ℕ) (fewer : i ≤ n) (room : n 
 
 -- ---- the answer
 
-pub arrived_back : {n e : ℕ} {roads : ℕ → Road} {goal : ℕ} {p : Progress} {came : List ℕ} → p ≡ P.Found → GoalReached n e roads goal p came → Back n e roads came goal
-arrived_back is h = rw is at h
-
-pub found_there : (roads : ℕ → Road) (n : ℕ) (real penalised : List Float) (came : List ℕ) (goal : ℕ) {shown way : List Road} {x : Float} → goal < n → get_or came goal 0 ≢ unreached → shown ≡ way → get_or real goal nan ≡ x
-    → found x shown ≡ found (real_of (label_at (labels_of roads n real penalised came) goal)) way
-found_there roads n real penalised came goal inside reached is e =
-    (λ i. found (sym e i) (is i)) ∙ rw (label_is roads n real penalised came goal inside, real_reached roads (get_or real goal nan) (get_or penalised goal nan) (get_or came goal 0) reached)
-
 -- it is told with its cost and the number of its roads
-pub found_told : (roads : ℕ → Road) (n : ℕ) (real penalised : List Float) (came : List ℕ) (goal k : ℕ) {way : List Road} {x : Float} → goal < n → get_or came goal 0 ≢ unreached → map roads (back_way roads came k goal) ≡ way → get_or real goal nan ≡ x
-    → S.Found x k ≡ told (found (real_of (label_at (labels_of roads n real penalised came) goal)) way)
+pub found_told : (roads : ℕ → Road) (n : ℕ) (real penalised : List Float) (came : List ℕ) (goal k : ℕ) {way : List Road} → goal < n → get_or came goal 0 ≢ unreached → map roads (back_way roads came k goal) ≡ way
+    → S.Found (get_or real goal nan) k ≡ told (found (real_of (label_at (labels_of roads n real penalised came) goal)) way)
 unfolding told
-found_told roads n real penalised came goal k {x = x} inside reached is e =
-    ap (λ (m : ℕ). S.Found x m) (sym (length-map (back_way roads came k goal) roads ∙ back_size roads came k goal))
-    ∙ ap told (found_there roads n real penalised came goal inside reached is e)
+found_told roads n real penalised came goal k {way} inside reached is =
+    let cost : real_of (label_at (labels_of roads n real penalised came) goal) ≡ get_or real goal nan =
+    ap real_of (label_is roads n real penalised came goal inside) ∙ real_reached roads (get_or real goal nan) (get_or penalised goal nan) (get_or came goal 0) reached in
+    let size : length way ≡ k = sym (ap length is) ∙ length-map (back_way roads came k goal) roads ∙ back_size roads came k goal in
+    λ i. S.Found (sym cost i) (sym size i)

@@ -1,14 +1,24 @@
 -- What the lent areas stand for in the definition: the labels of all nodes, the entries made so far, and the heap. What stands behind them has no part.
-use Rattle.std.specs.Prelude.{ℕ, zero, suc, ◌+◌, ◌-◌, ◌≤◌, ◌<◌, ◌≡◌, ◌⊎◌, ◌≢◌, cond, List, [], ◌∷◌, ◌++◌, eqb, length, get_or, take, drop, Float}
+use Rattle.std.specs.Prelude.{ℕ, zero, suc, ◌+◌, ◌-◌, ◌≤◌, ◌<◌, ◌≡◌, ◌⊎◌, ◌≢◌, cond, List, [], ◌∷◌, ◌++◌, eqb, length, get_or, set, Float, Option as Maybe, Some, None}
+use Rattle.std.specs.Option.{unwrap_or}
 use Rattle.std.proofs.Math.Option.{Option, none, some}
 use Rattle.std.specs.Float.{nan}
 use Rattle.model.specs.declared.Counts.{Counts}
 use Rattle.model.specs.declared.Road.{Road}
-use Rattle.model.specs.Numbers.{f0}
+use Rattle.model.specs.Layout.{most_roads}
 use Rattle.model.specs.Lists.{tabulate}
-use Rattle.model.specs.Sheet.{sheet_of, road_at}
-use Rattle.model.specs.Search.{Label, Entry, State}
+use Rattle.model.specs.Sheet.{road_at}
+use Rattle.model.specs.Heap.{push}
+use Rattle.model.specs.Search.{State}
+use Rattle.model.specs.Search as astar
 use Rattle.model.specs.Call.{most_entries}
+use Rattle.heap.specs.Keys.{key_in, Below}
+use Rattle.sheet.specs.declared.Sheet.{Sheet}
+use Rattle.sheet.specs.Contents.{contents}
+use Rattle.search.specs.declared.areas.Label.{Label}
+use Rattle.search.specs.declared.areas.Entry.{Entry}
+use Rattle.search.specs.declared.areas.SearchAreas.{SearchAreas}
+use Rattle.search.specs.declared.costs.Search.{Search}
 
 -- ---- labels
 
@@ -23,31 +33,44 @@ unfoldable pub came_by : (ℕ → Road) → ℕ → Option Road
 came_by roads k = cond (eqb k start_mark) none (some (roads k))
 
 -- the label that the costs x and y and the mark k of a node stand for
-unfoldable pub marked : (ℕ → Road) → Float → Float → ℕ → Option Label
+unfoldable pub marked : (ℕ → Road) → Float → Float → ℕ → Option astar.Label
 marked roads x y k = cond (eqb k unreached) none (some record { real = x; penalised = y; came_from = came_by roads k })
 
-abbrev pub label_of : (ℕ → Road) → List Float → List Float → List ℕ → ℕ → Option Label
+abbrev pub label_of : (ℕ → Road) → List Float → List Float → List ℕ → ℕ → Option astar.Label
 label_of roads real penalised came v = marked roads (get_or real v nan) (get_or penalised v nan) (get_or came v 0)
 
 -- the labels of n nodes; `roads k` is road k
-unfoldable pub labels_of : (ℕ → Road) → ℕ → List Float → List Float → List ℕ → List (Option Label)
+unfoldable pub labels_of : (ℕ → Road) → ℕ → List Float → List Float → List ℕ → List (Option astar.Label)
 labels_of roads n real penalised came = tabulate n 0 (label_of roads real penalised came)
+
+-- a label of the code
+abbrev pub road_of : (ℕ → Road) → Maybe ℕ → Option Road
+road_of roads None = none
+road_of roads (Some k) = some (roads k)
+
+abbrev pub label_as : (ℕ → Road) → Label → astar.Label
+label_as roads l = record { real = l.real; penalised = l.penalised; came_from = road_of roads l.came_from }
+
+-- the mark that it leaves
+abbrev pub mark_of : Maybe ℕ → ℕ
+mark_of came = unwrap_or came start_mark
+
+-- it came by one of e roads, whose numbers are no marks, or it is the start's
+abbrev pub CameByRoad : ℕ → Maybe ℕ → Type 0
+CameByRoad e None = Unit {0}
+CameByRoad e (Some k) = (k < e) × (e ≤ most_roads)
 
 -- ---- entries
 
-abbrev pub heap_entry : List Float → List Float → List ℕ → ℕ → Entry
+abbrev pub heap_entry : List Float → List Float → List ℕ → ℕ → astar.Entry
 heap_entry key cost node k = record { f_score = get_or key k nan; g_score = get_or cost k nan; node = get_or node k 0 }
 
--- an entry of this cost at node u, whose roads are tried: its f-score no longer counts
-abbrev pub entry_from : ℕ → Float → Entry
-entry_from u cost = record { f_score = f0; g_score = cost; node = u }
-
-unfoldable pub entries_of : List Float → List Float → List ℕ → ℕ → List Entry
+unfoldable pub entries_of : List Float → List Float → List ℕ → ℕ → List astar.Entry
 entries_of key cost node made = tabulate made 0 (heap_entry key cost node)
 
 -- ---- the state
 
--- Of each node the real and the penalised cost of its label and the road it came by; of each entry its f-score, g-score and node; the heap's order, its length, and how many entries were made.
+-- Of each node the real and the penalised cost of its label and the road it came by; of each entry its f-score, g-score and node; the heap, and how many entries were made.
 pub record Columns : Type 0 where
   pub real : List Float
   pub penalised : List Float
@@ -55,30 +78,61 @@ pub record Columns : Type 0 where
   pub f_score : List Float
   pub g_score : List Float
   pub node : List ℕ
-  pub order : List ℕ
-  pub len : ℕ
+  pub heap : List ℕ
   pub made : ℕ
 
-abbrev pub make_columns : List Float → List Float → List ℕ → List Float → List Float → List ℕ → List ℕ → ℕ → ℕ → Columns
-make_columns real penalised came key cost node order len made = record { real = real; penalised = penalised; came = came; f_score = key; g_score = cost; node = node; order = order; len = len; made = made }
-
--- The areas as they are lent: real costs and behind them penalised ones, n of each; f-scores and behind them g-scores, the heap's order and behind it the entries' nodes, `slots` of each.
-abbrev pub columns : ℕ → ℕ → List Float → List ℕ → List Float → List ℕ → ℕ → ℕ → Columns
-columns n slots labels came entries links len made = make_columns (take n labels) (drop n labels) came (take slots entries) (drop slots entries) (drop slots links) (take slots links) len made
+abbrev pub columns : SearchAreas → Columns
+columns a = record {
+  real = a.real.now;
+  penalised = a.penalised.now;
+  came = a.came_from.now;
+  f_score = a.f_score.now;
+  g_score = a.g_score.now;
+  node = a.node.now;
+  heap = a.heap.items;
+  made = a.made;
+}
 
 abbrev pub state_of : (ℕ → Road) → ℕ → Columns → State
 state_of roads n a = record {
   labels = labels_of roads n a.real a.penalised a.came;
   made = entries_of a.f_score a.g_score a.node a.made;
-  heap = take a.len a.order;
+  heap = a.heap;
 }
 
--- over the sheet that s holds
-abbrev pub labels_at : List ℕ → Counts → List Float → List ℕ → List (Option Label)
-labels_at s c labels came = labels_of (road_at (sheet_of s c)) c.n (take c.n labels) (drop c.n labels) came
+-- over a sheet
+abbrev pub labels_at : Sheet → SearchAreas → List (Option astar.Label)
+labels_at sheet a = labels_of (road_at (contents sheet)) sheet.counts.n a.real.now a.penalised.now a.came_from.now
 
-abbrev pub state_at : List ℕ → Counts → Columns → State
-state_at s c a = state_of (road_at (sheet_of s c)) c.n a
+abbrev pub state_at : Sheet → SearchAreas → State
+state_at sheet a = state_of (road_at (contents sheet)) sheet.counts.n (columns a)
+
+-- ---- what the areas' functions do
+
+-- the penalised cost of a node's label, where it has one
+abbrev pub cost_there : Columns → ℕ → Maybe Float
+cost_there a v = cond (eqb (get_or a.came v 0) unreached) None (Some (get_or a.penalised v nan))
+
+abbrev pub entry_in : Columns → ℕ → Entry
+entry_in a k = record { f_score = get_or a.f_score k nan; g_score = get_or a.g_score k nan; node = get_or a.node k 0 }
+
+-- node v has the label l, and there is one entry more
+abbrev pub grown : Columns → ℕ → Label → Float → Columns
+grown a v l f = record {
+  real = set a.real v l.real;
+  penalised = set a.penalised v l.penalised;
+  came = set a.came v (mark_of l.came_from);
+  f_score = set a.f_score a.made f;
+  g_score = set a.g_score a.made l.penalised;
+  node = set a.node a.made v;
+  heap = push (key_in (set a.f_score a.made f)) a.heap a.made;
+  made = a.made + 1;
+}
+
+-- The areas are as large as before.
+pub record SameRoom (a b : SearchAreas) : Type 0 where
+  pub nodes : b.nodes ≡ a.nodes
+  pub slots : b.slots ≡ a.slots
 
 -- ---- what holds of the areas
 
@@ -90,21 +144,6 @@ pub record Sized (n slots : ℕ) (a : Columns) : Type 0 where
   pub f_score : slots ≤ length a.f_score
   pub g_score : slots ≤ length a.g_score
   pub node : slots ≤ length a.node
-  pub order : slots ≤ length a.order
-
--- ---- what is lent, with room
-
--- for a search over n nodes with a heap of `slots` entries
-abbrev pub SearchRoom : ℕ → ℕ → List Float → List ℕ → List Float → List ℕ → Type 0
-SearchRoom n slots labels came entries links = (0 < slots) × Sized n slots (columns n slots labels came entries links 0 0)
-
--- for the coverages and the roads of all legs
-abbrev pub ListRoom : Counts → List ℕ → List Float → List ℕ → Type 0
-ListRoom c covered coverage ids = (most_entries c.p c.n ≤ length covered) × (most_entries c.p c.n ≤ length coverage) × (most_entries c.p c.n ≤ length ids)
-
--- the same, with both answer lists
-abbrev pub AnswerRoom : Counts → List ℕ → List Float → List ℕ → List Float → Type 0
-AnswerRoom c covered coverage ids lengths = (most_entries c.p c.n ≤ length covered) × (most_entries c.p c.n ≤ length coverage) × (most_entries c.p c.n ≤ length ids) × (most_entries c.p c.n ≤ length lengths)
 
 -- a mark, or the number of one of e roads
 abbrev pub MarkOrRoad : ℕ → ℕ → Type 0
@@ -116,29 +155,40 @@ Reached a v = get_or a.came v 0 ≢ unreached
 -- The areas of a search over n nodes and e roads. Entries are in the heap by their numbers, and each stands at a node that is reached.
 pub record Proper (n e slots : ℕ) (a : Columns) : Type 0 where
   pub sized : Sized n slots a
-  pub fewer : a.len ≤ a.made
+  pub fewer : length a.heap ≤ a.made
   pub room : a.made ≤ slots
-  pub numbers : (j : ℕ) → j < a.len → get_or a.order j 0 < a.made
+  pub numbers : Below a.heap a.made
   pub nodes : (k : ℕ) → k < a.made → get_or a.node k 0 < n
   pub reached : (k : ℕ) → k < a.made → Reached a (get_or a.node k 0)
   pub marks : (v : ℕ) → v < n → MarkOrRoad e (get_or a.came v 0)
 
--- No area changes its length.
-pub record SameSizes (a b : Columns) : Type 0 where
-  pub real : length b.real ≡ length a.real
-  pub penalised : length b.penalised ≡ length a.penalised
-  pub came : length b.came ≡ length a.came
-  pub f_score : length b.f_score ≡ length a.f_score
-  pub g_score : length b.g_score ≡ length a.g_score
-  pub node : length b.node ≡ length a.node
-  pub order : length b.order ≡ length a.order
-
 -- From the areas a to the areas b: as many entries went into the heap as were made, and what was reached is reached.
 pub record AreasKept (n e slots : ℕ) (a b : Columns) : Type 0 where
   pub proper : Proper n e slots b
-  pub sizes : SameSizes a b
-  pub gone : b.made + a.len ≡ b.len + a.made
+  pub gone : b.made + length a.heap ≡ length b.heap + a.made
   pub reached : (v : ℕ) → Reached a v → Reached b v
+
+-- the areas of a search over its sheet
+abbrev pub Ready : Search → SearchAreas → Type 0
+Ready s a = (a.nodes ≡ s.sheet.counts.n) × Proper s.sheet.counts.n s.sheet.counts.e a.slots (columns a)
+
+-- from the areas a to the areas b
+abbrev pub Kept : Search → SearchAreas → SearchAreas → Type 0
+Kept s a b = AreasKept s.sheet.counts.n s.sheet.counts.e a.slots (columns a) (columns b)
+
+-- node v is reached
+abbrev pub Labelled : SearchAreas → ℕ → Type 0
+Labelled a v = (v < a.nodes) × Reached (columns a) v
+
+-- ---- what else is lent, with room
+
+-- for the coverages and the roads of all legs
+abbrev pub ListRoom : Counts → List ℕ → List Float → List ℕ → Type 0
+ListRoom c covered coverage ids = (most_entries c.p c.n ≤ length covered) × (most_entries c.p c.n ≤ length coverage) × (most_entries c.p c.n ≤ length ids)
+
+-- the same, with both answer lists
+abbrev pub AnswerRoom : Counts → List ℕ → List Float → List ℕ → List Float → Type 0
+AnswerRoom c covered coverage ids lengths = (most_entries c.p c.n ≤ length covered) × (most_entries c.p c.n ≤ length coverage) × (most_entries c.p c.n ≤ length ids) × (most_entries c.p c.n ≤ length lengths)
 
 -- ---- the walk back
 

@@ -1,25 +1,24 @@
 // The bounded A* search over a well-formed sheet.
 #![tactic(auto)]
 
-mod begin;
+pub mod areas;
 mod costs;
-mod offers;
 mod relax;
 pub mod route;
 mod turns;
 
-ghost use Rattle.std.specs.Prelude.{◌≡◌, ℕ, ◌≤◌, ◌<◌};
-ghost use Rattle.model.specs.Judge.{WellFormed};
-ghost use Rattle.model.specs.Sheet.{sheet_of};
+ghost use Rattle.std.specs.Prelude.{◌≡◌, ℕ, ◌<◌, true, Ok};
 ghost use Rattle.model.specs.Search.{search_within, bounded_astar};
 ghost use Rattle.bounds.specs.Amounts.{Amount};
+ghost use Rattle.sheet.specs.Contents.{contents};
 ghost use Rattle.search.specs.Query.{query_on, query_at};
-ghost use Rattle.search.specs.Areas.{columns, labels_at, Sized, SearchRoom};
-ghost use Rattle.search.specs.Answers.{SearchState, end_of_search, told, roads_in, Traced};
+ghost use Rattle.search.specs.Areas.{labels_at, SameRoom, Labelled, Ready};
+ghost use Rattle.search.specs.Answers.{end_of_search, told, roads_in, Traced};
 
-use crate::turns::SearchTurn;
-use model::{AStarConstraints, Counts};
-use sheet::distances;
+use crate::areas::SearchAreas;
+use crate::costs::Search;
+use model::AStarConstraints;
+use sheet::Sheet;
 
 // What a search is asked: the way from `start` to `goal`, no path longer than `max_cost` metres, under the constraints of its leg.
 #[derive(Clone, Copy)]
@@ -30,7 +29,12 @@ pub struct Query {
     pub constraints: AStarConstraints,
 }
 
+// No slot is left for an entry.
+#[derive(Clone, Copy)]
+pub struct HeapFull;
+
 // How a search ends: with the real cost and the number of roads, with no way, or with no slot left for an entry.
+// An enum and no Result, as the scope has it: the found case carries the cost and the count.
 #[derive(Clone, Copy)]
 pub enum SearchEnd {
     Found(f64, usize),
@@ -38,58 +42,31 @@ pub enum SearchEnd {
     Full,
 }
 
-// The end of a search, and how many heap entries it made.
-#[derive(Clone, Copy)]
-pub struct Searched {
-    pub end: SearchEnd,
-    pub entries: usize,
-}
-
-// The labels and entries of a whole search, from the start's on. The goal's row is found once.
-fn search_from_start(
-    s: &[u8],
-    c: Counts,
-    query: Query,
-    slots: usize,
-    labels: &mut [f64],
-    came_from: &mut [usize],
-    entries: &mut [f64],
-    links: &mut [usize],
-) -> SearchTurn
-    requires { WellFormed s.now c × (query.start < c.n) × (0 < slots) × Sized c.n slots (columns c.n slots labels.old came_from.old entries.old links.old 0 0) }
-    ensures stands { SearchState c.n c.e slots query.goal result.progress (columns c.n slots labels.new came_from.new entries.new links.new result.len result.made) }
-    ensures found { (steps : ℕ) → end_of_search steps (query_at s.now c query) result.progress (labels_at s.now c labels.new came_from.new)
-        ≡ search_within steps slots slots (query_at s.now c query) query.start }
+// The labels and entries of a whole search, from the start's on; whether the goal came up.
+fn search_from_start(search: &Search<'_>, areas: &mut SearchAreas<'_>) -> Result<bool, HeapFull>
+    requires { (search.now.query.start < areas.old.nodes) × (areas.old.nodes ≡ search.now.sheet.counts.n) }
+    ensures same_room { SameRoom areas.old areas.new }
+    ensures arrived { result ≡ Ok true → Ready search.now areas.new × Labelled areas.new search.now.query.goal }
+    ensures found { (steps : ℕ) → end_of_search steps (query_at search.now) result (labels_at search.now.sheet areas.new)
+        ≡ search_within steps areas.old.slots areas.old.slots (query_at search.now) search.now.query.start }
 {
-    let n = c.n;
-    let start = query.start;
-    let row = distances::goal_row(s, c, query.goal);
-    let far = costs::heuristic(s, c, query, row, start);
-    begin::prepare(labels, came_from, entries, links, n, slots, start, far);
-    turns::run_search(s, c, query, row, slots, labels, came_from, entries, links)
+    let start = search.query.start;
+    let far = search.heuristic(start);
+    areas.begin(start, far);
+    turns::run_search(search, areas)
 }
 
-// The bounded A* search from `query.start` to `query.goal`, with a heap of `slots` entries. Where it is found, the roads lead back from the goal by `came_from`.
+// The bounded A* search from `query.start` to `query.goal`, with as many heap entries as the areas have slots. Where it is found, the roads lead back from the goal by `came_from`.
 // The penalties are amounts, so that labels never fall along a way and the walk back needs no test for its end: those of the settings are (`slip_amount`, `access_amount`).
-pub fn bounded_astar(
-    s: &[u8],
-    c: Counts,
-    query: Query,
-    slots: usize,
-    labels: &mut [f64],
-    came_from: &mut [usize],
-    entries: &mut [f64],
-    links: &mut [usize],
-) -> Searched
-    requires well_formed { WellFormed s.now c × (query.start < c.n) × (query.goal < c.n) × Amount query.constraints.slip_road_cost_penalty × Amount query.constraints.access_road_cost_penalty }
-    requires search_room { SearchRoom c.n slots labels.old came_from.old entries.old links.old }
-    ensures found { result.end ≡ told (bounded_astar slots (query_on (sheet_of s.now c) query) query.start) }
-    ensures entries { result.entries ≤ slots }
-    ensures traced { Traced (sheet_of s.now c) c query.goal came_from.new result.end (roads_in (bounded_astar slots (query_on (sheet_of s.now c) query) query.start)) }
+pub fn bounded_astar(sheet: &Sheet<'_>, query: Query, areas: &mut SearchAreas<'_>) -> SearchEnd
+    requires nodes { (query.start < sheet.now.counts.n) × (query.goal < sheet.now.counts.n) × (areas.old.nodes ≡ sheet.now.counts.n) }
+    requires amounts { Amount query.constraints.slip_road_cost_penalty × Amount query.constraints.access_road_cost_penalty }
+    ensures same_room { SameRoom areas.old areas.new }
+    ensures found { result ≡ told (bounded_astar areas.old.slots (query_on (contents sheet.now) query) query.start) }
+    ensures traced { Traced (contents sheet.now) sheet.now.counts query.goal areas.new.came_from.now result
+        (roads_in (bounded_astar areas.old.slots (query_on (contents sheet.now) query) query.start)) }
 {
-    let t = search_from_start(s, c, query, slots, labels, came_from, entries, links);
-    let progress = t.progress;
-    let entries = t.made;
-    let end = route::end_of_search(s, c, query, progress, labels, came_from);
-    Searched { end, entries }
+    let search = Search::new(sheet, query);
+    let arrived = search_from_start(&search, areas);
+    route::end_of_search(&search, arrived, areas)
 }

@@ -1,152 +1,84 @@
 // One road, and all roads that leave a node.
-ghost use Rattle.std.specs.Prelude.{◌≡◌, ◌≢◌, ◌<◌, get_or};
-ghost use Rattle.std.proofs.Math.Option.{some};
-ghost use Rattle.model.specs.Sheet.{sheet_of, road_at};
+ghost use Rattle.std.specs.Prelude.{◌≡◌, ◌<◌, IfOk};
+ghost use Rattle.model.specs.Sheet.{road_at};
 ghost use Rattle.model.specs.Search.{entered, relax, relax_all};
-ghost use Rattle.search.specs.Query.{query_at, QueryReady};
-ghost use Rattle.search.specs.Areas.{unreached, entry_from, columns, state_at, Proper};
-ghost use Rattle.search.specs.Answers.{state_after, AfterRelaxing};
+ghost use Rattle.sheet.specs.Contents.{contents};
+ghost use Rattle.search.specs.Query.{query_at};
+ghost use Rattle.search.specs.Areas.{label_as, state_at, CameByRoad, SameRoom, Labelled, Ready, Kept};
+ghost use Rattle.search.specs.Answers.{entry_as, state_after};
 
-use crate::offers::{Offer, offer_of};
-use crate::{Query, costs};
-use model::{Counts, Road};
-use sheet::distances::GoalRow;
-use sheet::roads;
+use crate::HeapFull;
+use crate::areas::{Entry, Label, SearchAreas};
+use crate::costs::Search;
+use model::Road;
 
-// The heap's length and the number of entries made after a step, or no slot left.
-#[derive(Clone, Copy)]
-pub enum Relaxed {
-    Done(usize, usize),
-    Full,
-}
-
-// The target of r gets the label of costs a and b, and an entry, if a slot is left; slots are not reused.
+// Node v gets the label, and an entry, if a slot is left; slots are not reused.
 fn enter(
-    s: &[u8],
-    c: Counts,
-    query: Query,
-    row: GoalRow,
-    slots: usize,
-    labels: &mut [f64],
-    came_from: &mut [usize],
-    entries: &mut [f64],
-    links: &mut [usize],
-    len: usize,
-    made: usize,
-    r: Road,
-    a: f64,
-    b: f64,
-) -> Relaxed
-    requires { QueryReady s.now c query row × Proper c.n c.e slots (columns c.n slots labels.old came_from.old entries.old links.old len made) × (r.target < c.n) × (r.number < c.e) }
-    ensures kept { AfterRelaxing c.n c.e slots (columns c.n slots labels.old came_from.old entries.old links.old len made)
-        result (columns c.n slots labels.new came_from.new entries.new links.new) }
-    ensures state { state_after result (λ l m. state_at s.now c (columns c.n slots labels.new came_from.new entries.new links.new l m))
-        ≡ entered slots (query_at s.now c query) (state_at s.now c (columns c.n slots labels.old came_from.old entries.old links.old len made))
-        r.target record { real = a; penalised = b; came_from = some (road_at (sheet_of s.now c) r.number) } }
+    search: &Search<'_>,
+    areas: &mut SearchAreas<'_>,
+    v: usize,
+    label: Label,
+) -> Result<(), HeapFull>
+    requires ready { Ready search.now areas.old }
+    requires inside { (v < areas.old.nodes) × CameByRoad search.now.sheet.counts.e label.came_from }
+    ensures same_room { SameRoom areas.old areas.new }
+    ensures kept { IfOk result (λ u. Kept search.now areas.old areas.new) }
+    ensures state { state_after result (state_at search.now.sheet areas.new)
+        ≡ entered areas.old.slots (query_at search.now) (state_at search.now.sheet areas.old) v (label_as (road_at (contents search.now.sheet)) label) }
 {
-    if slots <= made {
-        return Relaxed::Full;
+    let full = areas.slots <= areas.made;
+    if full {
+        return Err(HeapFull);
     }
-    let v = r.target;
-    let n = c.n;
-    labels[v] = a;
-    labels[n + v] = b;
-    came_from[v] = r.number;
-    entries[made] = b + costs::heuristic(s, c, query, row, v);
-    entries[slots + made] = b;
-    links[slots + made] = v;
-    heap::push(&mut links[..slots], entries, len, made);
-    let longer = len + 1;
-    let more = made + 1;
-    Relaxed::Done(longer, more)
+    let f_score = label.penalised + search.heuristic(v);
+    areas.put(v, label, f_score);
+    Ok(())
 }
 
-// One road r out of node u, which was taken out of the heap at the penalised cost g.
+// One road r out of the node of an entry that was taken out of the heap.
 fn relax(
-    s: &[u8],
-    c: Counts,
-    query: Query,
-    row: GoalRow,
-    slots: usize,
-    labels: &mut [f64],
-    came_from: &mut [usize],
-    entries: &mut [f64],
-    links: &mut [usize],
-    len: usize,
-    made: usize,
-    u: usize,
-    g: f64,
+    search: &Search<'_>,
+    areas: &mut SearchAreas<'_>,
+    entry: Entry,
     r: Road,
-) -> Relaxed
-    requires query_ready { QueryReady s.now c query row × Proper c.n c.e slots (columns c.n slots labels.old came_from.old entries.old links.old len made) }
-    requires labelled { (u < c.n) × (get_or came_from.old u 0 ≢ unreached) × (r.target < c.n) × (r.number < c.e) × (road_at (sheet_of s.now c) r.number ≡ r) }
-    ensures kept { AfterRelaxing c.n c.e slots (columns c.n slots labels.old came_from.old entries.old links.old len made)
-        result (columns c.n slots labels.new came_from.new entries.new links.new) }
-    ensures state { state_after result (λ l m. state_at s.now c (columns c.n slots labels.new came_from.new entries.new links.new l m))
-        ≡ relax slots (query_at s.now c query) (entry_from u g) (state_at s.now c (columns c.n slots labels.old came_from.old entries.old links.old len made)) r }
+) -> Result<(), HeapFull>
+    requires ready { Ready search.now areas.old }
+    requires labelled { Labelled areas.old entry.node }
+    requires road { (r.target < areas.old.nodes) × (r.number < search.now.sheet.counts.e) × (road_at (contents search.now.sheet) r.number ≡ r) }
+    ensures same_room { SameRoom areas.old areas.new }
+    ensures kept { IfOk result (λ u. Kept search.now areas.old areas.new) }
+    ensures state { state_after result (state_at search.now.sheet areas.new)
+        ≡ relax areas.old.slots (query_at search.now) (entry_as entry) (state_at search.now.sheet areas.old) r }
 {
-    let v = r.target;
-    let n = c.n;
-    let extra = costs::penalty(query, r);
-    let o = offer_of(
-        query.max_cost,
-        labels[u],
-        g,
-        r,
-        extra,
-        labels[n + v],
-        came_from[v],
-    );
-    match o {
-        Offer::Keep => Relaxed::Done(len, made),
-        Offer::Better(a, b) => enter(
-            s, c, query, row, slots, labels, came_from, entries, links, len, made, r, a, b,
-        ),
+    let real = areas.real[entry.node];
+    let there = areas.cost_there(r.target);
+    let offer = search.offer(entry, real, r, there);
+    match offer {
+        None => Ok(()),
+        Some(label) => enter(search, areas, r.target, label),
     }
 }
 
-// All roads that the leg may use out of node u, which was taken out of the heap at the penalised cost g, in list order.
+// All roads that the search may use out of the entry's node, in list order.
 pub fn relax_all(
-    s: &[u8],
-    c: Counts,
-    query: Query,
-    row: GoalRow,
-    slots: usize,
-    labels: &mut [f64],
-    came_from: &mut [usize],
-    entries: &mut [f64],
-    links: &mut [usize],
-    first_len: usize,
-    first_made: usize,
-    u: usize,
-    g: f64,
-) -> Relaxed
-    requires query_ready { QueryReady s.now c query row × Proper c.n c.e slots (columns c.n slots labels.old came_from.old entries.old links.old first_len first_made) }
-    requires labelled { (u < c.n) × (get_or came_from.old u 0 ≢ unreached) }
-    ensures kept { AfterRelaxing c.n c.e slots (columns c.n slots labels.old came_from.old entries.old links.old first_len first_made)
-        result (columns c.n slots labels.new came_from.new entries.new links.new) }
-    ensures state { state_after result (λ l m. state_at s.now c (columns c.n slots labels.new came_from.new entries.new links.new l m))
-        ≡ relax_all slots (query_at s.now c query) (entry_from u g) ((query_at s.now c query).leaving u)
-        (state_at s.now c (columns c.n slots labels.old came_from.old entries.old links.old first_len first_made)) }
+    search: &Search<'_>,
+    areas: &mut SearchAreas<'_>,
+    entry: Entry,
+) -> Result<(), HeapFull>
+    requires ready { Ready search.now areas.old }
+    requires labelled { Labelled areas.old entry.node }
+    ensures same_room { SameRoom areas.old areas.new }
+    ensures kept { IfOk result (λ u. Kept search.now areas.old areas.new) }
+    ensures state { state_after result (state_at search.now.sheet areas.new)
+        ≡ relax_all areas.old.slots (query_at search.now) (entry_as entry) ((query_at search.now).leaving entry.node) (state_at search.now.sheet areas.old) }
 {
-    let mut len = first_len;
-    let mut made = first_made;
-    let mut i = roads::start(s, c, u);
-    let end = roads::start(s, c, u + 1);
-    while i < end {
-        let k = roads::entry(s, c, i);
-        let r = roads::road(s, c, k);
-        i += 1;
-        if costs::permits(query, r) {
-            let x = relax(
-                s, c, query, row, slots, labels, came_from, entries, links, len, made, u, g, r,
-            );
-            let Relaxed::Done(l, m) = x else {
-                return Relaxed::Full;
-            };
-            len = l;
-            made = m;
+    let sheet = &search.sheet;
+    let end = sheet.start(entry.node + 1);
+    for i in sheet.start(entry.node)..end {
+        let r = sheet.road(sheet.entry(i));
+        if search.permits(r) {
+            relax(search, areas, entry, r)?;
         }
     }
-    Relaxed::Done(len, made)
+    Ok(())
 }

@@ -1,5 +1,5 @@
 -- The settings and the points of the parsed sheet: a point's own fields, and its rows as a run of the sheet's rows.
-use Prim.Native.Nat.{ℕ, ◌+◌, ◌*◌, ◌≤◌, ◌<◌}
+use Prim.Native.Nat.{ℕ, ◌+◌, ◌*◌, ◌<◌}
 use mathlib.Core.Path.{◌≡◌, refl, ap, ◌∙◌}
 use mathlib.Core.List.{List}
 use native.Mathlib.Omega.{arith}
@@ -8,19 +8,13 @@ use Rattle.model.specs.declared.Counts.{Counts}
 use Rattle.model.specs.declared.Row.{Row}
 use Rattle.model.specs.Lists.{tabulate}
 use Rattle.model.specs.Bytes.{u8_at, u16_at, f64_at}
-use Rattle.model.specs.Layout.{most_measured, settings_at, points_at, points_bytes, rows_bytes}
+use Rattle.model.specs.Layout.{points_at, points_bytes, rows_bytes}
 use Rattle.model.specs.Judge.{WellFormed, row_count, rows_before}
-use Rattle.model.specs.Sheet.{MeasuredPoint, settings_of, point_of, row_of, measured_point, sheet_of}
+use Rattle.model.specs.Sheet.{MeasuredPoint, point_of, row_of, measured_point, sheet_of}
 use Rattle.model.proofs.Members.{getD_tab}
 use Rattle.model.proofs.Sections.{u8_section, u16_section, f64_section}
-use Rattle.model.proofs.Fields.{candidates_most}
 use Rattle.model.proofs.RowSums.{rows_within}
 use Rattle.model.proofs.Parsed.{measured_point_is, rows_are}
-
--- a point keeps at most as many candidates as it may have rows
-pub candidates_few : (s : List ℕ) (c : Counts) → WellFormed s c → (sheet_of s c).settings.max_candidates ≤ most_measured
-unfolding sheet_of settings_of
-candidates_few s c ok = rw (u16_section s settings_at 112 106 (settings_at + 106) (omega arith) refl) (candidates_most s c ok.sound)
 
 -- point i, from the whole sheet
 pub point_is : (s : List ℕ) (c : Counts) (i : ℕ) → i < c.p → point_of (points_bytes s c) i ≡ record { dnp = f64_at s (points_at + i * 24); bearing = u16_at s (points_at + i * 24 + 8); frc = u8_at s (points_at + i * 24 + 10); fow = u8_at s (points_at + i * 24 + 11); limit = u8_at s (points_at + i * 24 + 12) }

@@ -5,61 +5,62 @@ ghost use Rattle.model.specs.Layout as layout;
 
 use model::Counts;
 
-pub fn roads_at(c: Counts) -> usize
-    requires { Small c }
-    ensures { result ≡ layout.roads_at c }
-{
-    168 + c.p * 24
+// The counts of a sheet that refusal 2 lets pass.
+#[derive(Clone, Copy)]
+pub struct Layout {
+    pub counts: Counts,
+    ghost small: { Small counts },
 }
 
-pub fn lists_at(c: Counts) -> usize
-    requires { Small c }
-    ensures { result ≡ layout.lists_at c }
-{
-    roads_at(c) + c.e * 32
-}
+impl Layout {
+    pub fn roads(self) -> usize
+        ensures { result ≡ layout.roads_at self.counts }
+    {
+        168 + self.counts.p * 24
+    }
 
-pub fn numbers_at(c: Counts) -> usize
-    requires { Small c }
-    ensures { result ≡ layout.numbers_at c }
-{
-    lists_at(c) + (c.n + 1) * 4
-}
+    pub fn lists(self) -> usize
+        ensures { result ≡ layout.lists_at self.counts }
+    {
+        self.roads() + self.counts.e * 32
+    }
 
-pub fn rows_at(c: Counts) -> usize
-    requires { Small c }
-    ensures { result ≡ layout.rows_at c }
-{
-    numbers_at(c) + c.e * 4
-}
+    pub fn numbers(self) -> usize
+        ensures { result ≡ layout.numbers_at self.counts }
+    {
+        self.lists() + (self.counts.n + 1) * 4
+    }
 
-pub fn distances_at(c: Counts) -> usize
-    requires { Small c }
-    ensures { result ≡ layout.distances_at c }
-{
-    rows_at(c) + c.m * 40
-}
+    pub fn rows(self) -> usize
+        ensures { result ≡ layout.rows_at self.counts }
+    {
+        self.numbers() + self.counts.e * 4
+    }
 
-pub fn goals_at(c: Counts) -> usize
-    requires { Small c }
-    ensures { result ≡ layout.goals_at c }
-{
-    distances_at(c) + (c.n + c.n) * 8
-}
+    pub fn distances(self) -> usize
+        ensures { result ≡ layout.distances_at self.counts }
+    {
+        self.rows() + self.counts.m * 40
+    }
 
-// The bytes of a goal row.
-pub fn goal_width(c: Counts) -> usize
-    requires { Small c }
-    ensures { result ≡ layout.goal_width c.n }
-{
-    8 + c.n * 8
-}
+    pub fn goals(self) -> usize
+        ensures { result ≡ layout.goals_at self.counts }
+    {
+        self.distances() + (self.counts.n + self.counts.n) * 8
+    }
 
-pub fn total(c: Counts) -> usize
-    requires { Small c }
-    ensures { result ≡ layout.total c }
-{
-    let width = goal_width(c);
-    let goals = c.g * width;
-    goals_at(c) + goals
+    // The bytes of a goal row.
+    pub fn goal_width(self) -> usize
+        ensures { result ≡ layout.goal_width self.counts.n }
+    {
+        8 + self.counts.n * 8
+    }
+
+    pub fn total(self) -> usize
+        ensures { result ≡ layout.total self.counts }
+    {
+        let width = self.goal_width();
+        let goals = self.counts.g * width;
+        self.goals() + goals
+    }
 }

@@ -1,16 +1,16 @@
 -- Digits as the toolchain's functions give them are those of the definition; how many there are.
 use Prim.Native.Nat.{ℕ, zero, suc, ◌-◌, ◌/◌, ◌%◌, ◌^◌, ◌≤◌, ◌<◌}
-use native.Mathlib.Nat.{pow-suc, pow-le-pow_right, le-div_iff_mul-le, div-lt_iff_lt-mul, le_of_suc-le-suc, not-suc-le-zero, lt_of_not-le}
+use native.Mathlib.Nat.{pow-suc, pow-le-pow_right, le-div_iff_mul-le, div-lt_iff_lt-mul, le_of_suc-le-suc, not-suc-le-zero}
 use native.Mathlib.Omega.{arith}
 use mathlib.Core.Path.{◌≡◌, refl, ap, subst, ◌∙◌}
 use mathlib.Core.Bool.{Bool, true, false, cond}
 use mathlib.Core.List.{List, [], ◌∷◌, ◌++◌}
 use lib.Dec.{ltb}
-use lib.Ieee.{Float, binary64, eq, to_bits}
+use lib.Ieee.{Float, binary64, is_nan, to_bits}
 use lib.ListN.{length, take, length-append}
 use borrow.Author.Tests.{lt-ltb, le-ltb}
 use Rattle.io.specs.Digits.{hex_digit_ascii, last_digits, IsDigitCount}
-use Rattle.text.specs.Text.{ascii, decimal_within, decimal, bits_of}
+use Rattle.text.specs.Text.{ascii, decimal_within, bits_of}
 
 -- ten or more: the last digit, behind those of the tenth
 module _ (n k : ℕ) (few : IsDigitCount 10 1 n (suc (suc k))) where
@@ -45,7 +45,7 @@ fewest_decimal (suc (suc k)) (suc most) n few h =
 
 one_more : (b : Bool) (xs : List ℕ) (x k : ℕ) → length xs ≤ k → length (cond b [] xs ++ x ∷ []) ≤ suc k
 one_more true xs x k h = omega arith
-one_more false xs x k h = omega (arith, length-append xs (x ∷ []))
+one_more false xs x k h = simp length-append (omega arith)
 
 pub decimal_length : (k n : ℕ) → length (decimal_within k n) ≤ k
 unfolding decimal_within
@@ -54,7 +54,7 @@ decimal_length (suc k) n = one_more (ltb n 10) (decimal_within k (n / 10)) (hex_
 
 digits_length : (b k n : ℕ) → length (last_digits b k n) ≡ k
 digits_length b zero n = refl
-digits_length b (suc k) n = length-append (last_digits b k (n / b)) (hex_digit_ascii (n % b) ∷ []) ∙ omega (arith, digits_length b k (n / b))
+digits_length b (suc k) n = simp length-append (omega (arith, digits_length b k (n / b)))
 
 either_length : (b : Bool) (xs ys : List ℕ) (k : ℕ) → length xs ≤ k → length ys ≤ k → length (cond b xs ys) ≤ k
 either_length true xs ys k h g = h
@@ -62,24 +62,8 @@ either_length false xs ys k h g = g
 
 pub bits_length : (x : Float) → length (bits_of x) ≤ 16
 unfolding bits_of ascii
-bits_length x = either_length (eq x x) (last_digits 16 16 (to_bits binary64 x)) (ascii "not a number") 16 (omega (arith, digits_length 16 16 (to_bits binary64 x))) (omega arith)
+bits_length x = either_length (is_nan x) _ _ 16 (omega arith) (omega (arith, digits_length 16 16 (to_bits binary64 x)))
 
--- where `most` digits hold n, the fewest are no more
-not_more : (b least n k most : ℕ) → 0 < b → IsDigitCount b least n k → least ≤ most → n < b ^ most → most < k → ⊥
-not_more b least n k most h few within holds over =
-    let p : b ^ (k - 1) ≤ n = few.2 (omega arith) in
-    let q : b ^ most ≤ b ^ (k - 1) = pow-le-pow_right h (omega arith) in
-    omega arith
-
-at_most : (b least n k most : ℕ) → 0 < b → IsDigitCount b least n k → least ≤ most → n < b ^ most → k ≤ most
-at_most b least n k most h few within holds = le_of_suc-le-suc (lt_of_not-le (not_more b least n k most h few within holds))
-
--- a buffer's front, as the toolchain's `decimal` and `hex` leave it
-pub decimal_is : (n k : ℕ) (out : List ℕ) → n < 2 ^ 64 → IsDigitCount 10 1 n k → take k out ≡ last_digits 10 k n → take k out ≡ decimal n
-decimal_is n k out h few is = is ∙ fewest_decimal k 20 n few (at_most 10 1 n k 20 (omega arith) few (omega arith) (omega arith))
-
-pub hex_is : (n k : ℕ) (out : List ℕ) → n < 2 ^ 64 → IsDigitCount 16 16 n k → take k out ≡ last_digits 16 k n → take k out ≡ last_digits 16 16 n
-hex_is n k out h few is =
-    let most : k ≤ 16 = at_most 16 16 n k 16 (omega arith) few (omega arith) (omega arith) in
-    let all : k ≡ 16 = omega (arith, few.0) in
-    is ∙ ap (λ (m : ℕ). last_digits 16 m n) all
+-- all sixteen digits, as the toolchain's `hex` leaves them
+pub hex_is : (n k : ℕ) (out : List ℕ) → k ≡ 16 → take k out ≡ last_digits 16 k n → take k out ≡ last_digits 16 16 n
+hex_is n k out all is = is ∙ ap (λ (m : ℕ). last_digits 16 m n) all

@@ -1,10 +1,9 @@
 -- "Marked set, and the list program": the text of an answer and both answer lists, in ASCII, a line for each part.
-use Rattle.std.specs.Prelude.{ℕ, zero, suc, ◌/◌, ◌%◌, cond, List, [], ◌∷◌, ◌++◌, ltb, Float}
+use Rattle.std.specs.Prelude.{ℕ, zero, suc, ◌/◌, ◌%◌, cond, List, [], ◌∷◌, ◌++◌, ltb, Float, is_nan, to_bits}
 use Prim.Native.Char.{code}
 use Prim.Native.String.{String}
 use Prim.Native.String as string
 use Rattle.std.specs.Float.{binary64}
-use Rattle.std.specs.Float.Ieee.{eq, to_bits}
 use Rattle.io.specs.Digits.{hex_digit_ascii, last_digits}
 use Rattle.model.specs.Call.{Lists, Match, Answer, refused, matched, Decoded}
 
@@ -22,9 +21,9 @@ decimal_within (suc k) n = cond (ltb n 10) [] (decimal_within k (n / 10)) ++ hex
 abbrev pub decimal : ℕ → List ℕ
 decimal n = decimal_within 20 n
 
--- The sixteen hexadecimal digits of x's bits. Only a NaN differs from itself; its bits are unknown, and the decoder answers none (NumberTheorem).
+-- The sixteen hexadecimal digits of x's bits. A NaN's bits are unknown, and the decoder answers none (NumberTheorem).
 unfoldable pub bits_of : Float → List ℕ
-bits_of x = cond (eq x x) (last_digits 16 16 (to_bits binary64 x)) (ascii "not a number")
+bits_of x = cond (is_nan x) (ascii "not a number") (last_digits 16 16 (to_bits binary64 x))
 
 -- what follows a line's name: a space before each part, and a line feed
 unfoldable pub spaced : List (List ℕ) → List ℕ

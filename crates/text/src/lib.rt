@@ -2,54 +2,48 @@
 #![tactic(auto)]
 
 mod parts;
-mod sizes;
 
-ghost use Rattle.std.specs.Prelude.{◌≡◌};
+ghost use Rattle.std.specs.Prelude.{◌≡◌, ◌<◌};
 ghost use Rattle.answers.specs.Room.{answer_of, lists};
 ghost use Rattle.text.specs.Text.{text, large};
-ghost use Rattle.text.specs.Buffer.{Put, told, filled};
+ghost use Rattle.text.specs.Buffer.{PutFirst, told, filled};
 
-use crate::parts::{put, put_match, put_refusal};
-use crate::sizes::text_fits;
+use crate::parts::Writer;
 use answers::Answer;
 
-// What writing a text answers: how many bytes it has, or that the buffer is too short for it.
-#[derive(Clone, Copy)]
-pub enum Written {
-    Bytes(usize),
-    Short,
-}
-
+// Puts the text of an answer at the front of `out`, if it fits, and returns how many bytes it has.
 fn put_text(out: &mut [u8], answer: Answer, ids: &[u64], lengths: &[f64]) -> usize
-    ensures { Put (text (answer_of answer) (lists ids.now lengths.now)) out.old out.new 0 result }
+    ensures { PutFirst (text (answer_of answer) (lists ids.now lengths.now)) out.old out.new result }
 {
-    match answer {
-        Answer::Matched(m) => put_match(out, m, ids, lengths),
-        Answer::Refused(number, a, b) => put_refusal(out, 0, number, a, b),
-    }
+    let mut writer = Writer { out, at: 0 };
+    writer.answer(answer, ids, lengths);
+    writer.at
 }
 
-// Writes the text of an answer to the front of `out`. A buffer that is too short for it stays as it is.
-pub fn write_text(out: &mut [u8], answer: Answer, ids: &[u64], lengths: &[f64]) -> Written
+// Writes the text of an answer to the front of `out`, and returns how many bytes it has. A buffer that is too short for it stays as it is.
+pub fn write_text(out: &mut [u8], answer: Answer, ids: &[u64], lengths: &[f64]) -> Option<usize>
     ensures value { result ≡ told (text (answer_of answer) (lists ids.now lengths.now)) out.old }
     ensures out_after { out.new ≡ filled (text (answer_of answer) (lists ids.now lengths.now)) out.old }
 {
-    if text_fits(answer, ids, lengths, out.len()) {
-        let size = put_text(out, answer, ids, lengths);
-        Written::Bytes(size)
-    } else {
-        Written::Short
+    // Without a buffer the bytes are counted alone.
+    let size = put_text(&mut [], answer, ids, lengths);
+    if size > out.len() {
+        return None;
     }
+    put_text(out, answer, ids, lengths);
+    Some(size)
 }
 
 // Writes the one line of a sheet that is too long for the program.
-pub fn write_large(out: &mut [u8]) -> Written
+#[tactic(auto, unfolding(crate::specs::Text::ascii, crate::specs::Text::spaced, crate::specs::Text::line, crate::specs::Text::large))]
+pub fn write_large(out: &mut [u8]) -> Option<usize>
     ensures value { result ≡ told large out.old }
     ensures out_after { out.new ≡ filled large out.old }
 {
-    if out.len() < 6 {
-        return Written::Short;
+    let line = b"large\n";
+    if out.len() < line.len() {
+        return None;
     }
-    let size = put(out, 0, b"large\n");
-    Written::Bytes(size)
+    out[..line.len()].copy_from_slice(line);
+    Some(line.len())
 }

@@ -1,7 +1,19 @@
-use Rattle.answers.proofs.Written.{written_is}
+use Rattle.std.proofs.Common.{arith, rules, ap₂}
+use Rattle.model.specs.Call.{written}
+use Rattle.model.specs.Numbers.{f0}
+use Rattle.model.proofs.Fill.{map_step}
+use Rattle.answers.specs.Room.{lists}
+use Rattle.answers.proofs.Written.{padded}
 use Rattle.answers.proofs.write_path.Goals as goal
 
+pub loop-j-preserved : goal.loop-j-preserved
+loop-j-preserved c = record {
+  ids = map_step _ c.args.path.now 0 c.loop-j.invariant.ids (omega arith) (omega arith) c.id.ensures;
+  lengths = map_step _ c.args.path.now 0 c.loop-j.invariant.lengths (omega arith) (omega arith) c.length_m.ensures;
+}
+
 pub returns : goal.returns
-returns c =
-    let start = c in
-    written_is _ c.args.path.now c.args.ids.now _ c.args.lengths.now _ _ c.requires.1 c.requires.2 c.requires.3 c.write_ids.ensures c.write_lengths.ensures _ c.zero_ids.ensures _ c.zero_lengths.ensures
+unfolding written
+returns c = ap₂ lists
+    (padded 0 _ c.args.path.now c.loop-j.invariant.ids (omega arith) c.requires.0 (search rules))
+    (padded f0 _ c.args.path.now c.loop-j.invariant.lengths (omega arith) c.requires.1 (search rules))

@@ -1,13 +1,19 @@
-use mathlib.Core.Path.{sym, ap, ◌∙◌}
-use Rattle.model.specs.Call.{answered}
-use Rattle.finalize.proofs.Closing.{legs_come, refusal_outcome}
+use Rattle.std.proofs.Common.{arith}
+use Rattle.finalize.proofs.Closing.{stored, walks_fit, uncovered, covered, some_written, own_numbers}
 use Rattle.finalize.proofs.answer.Goals as goal
 
-pub finish_legs-requires : goal.finish_legs-requires
-finish_legs-requires c = let p = c.requires in record { well_formed = (p.well_formed.0, p.well_formed.1, (p.well_formed.2.0, legs_come _ _ _ _ _ _ c.in-Legs.is p.well_formed.2.1)); answer_room = p.answer_room }
+pub returns-in_default : goal.returns-in_default
+returns-in_default c = λ slots comes. rw (uncovered _ c.args.sheet.now.counts _ _ _ c.in-Ok.is comes c.primary_edge.ensures.0 c.in_default.is) (c.refuse-in_default.ensures _)
 
-pub returns-in-Refused : goal.returns-in-Refused
-returns-in-Refused c = λ slots comes. c.refuse.ensures ∙ ap (answered _ _) (sym (refusal_outcome _ _ _ _ _ _ c.in-Refused.is comes))
+pub finish_path-requires-clause-written : goal.finish_path-requires-clause-written
+finish_path-requires-clause-written c =
+    let comes = c.requires.found.1 in
+    let runs = stored _ c.args.sheet.now.counts _ _ _ c.in-Ok.is comes in
+    let matched = covered _ c.args.sheet.now.counts _ _ _ c.in-Ok.is comes c.primary_edge.ensures.0 c.in-Some.is in
+    let own = c.primary_edge.ensures.1 _ runs.below in
+    let fits = walks_fit _ c.args.sheet.now.counts _ _ _ c.in-Ok.is comes in
+    (rw c.in-Some.is at own, some_written runs.written c.args.sheet.now _ matched (omega arith), own_numbers runs.written c.args.sheet.now _ matched (omega arith))
 
-pub returns-in-Legs : goal.returns-in-Legs
-returns-in-Legs c = λ slots comes. c.finish_legs.ensures slots (legs_come _ _ _ _ _ _ c.in-Legs.is comes)
+pub returns : goal.returns
+returns c = λ slots comes.
+    rw (covered _ c.args.sheet.now.counts _ _ _ c.in-Ok.is comes c.primary_edge.ensures.0 c.in-Some.is) (c.finish_path.ensures _ (stored _ c.args.sheet.now.counts _ _ _ c.in-Ok.is comes).written)

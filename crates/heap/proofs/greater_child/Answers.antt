@@ -1,12 +1,11 @@
-use mathlib.Core.Path.{sym, ◌∙◌}
 use native.Mathlib.Omega.{arith}
 use Rattle.model.specs.Heap.{child}
 use Rattle.heap.proofs.greater_child.Goals as goal
 
-pub returns-then-at_most : goal.returns-then-at_most
+pub returns-then-key-order : goal.returns-then-key-order
 unfolding child
-returns-then-at_most c = (simp (sym c.at_most.ensures ∙ c.if-at_most.true), omega arith, omega arith)
+returns-then-key-order c = (simp c.if-key-order.true, omega arith, omega arith)
 
-pub returns-else-at_most : goal.returns-else-at_most
+pub returns-else-key-order : goal.returns-else-key-order
 unfolding child
-returns-else-at_most c = (simp (sym c.at_most.ensures ∙ c.if-at_most.false), omega arith, omega arith)
+returns-else-key-order c = (simp c.if-key-order.false, omega arith, omega arith)

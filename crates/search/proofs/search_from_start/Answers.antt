@@ -1,30 +1,24 @@
 use mathlib.Core.Path.{sym, ap, ◌∙◌}
-use Rattle.model.specs.Sheet.{sheet_of, road_at}
+use Rattle.model.specs.Sheet.{road_at}
 use Rattle.model.specs.Search.{run, search_within}
-use Rattle.search.specs.Query.{query_on}
+use Rattle.sheet.specs.Contents.{contents}
+use Rattle.search.specs.Query.{query_at}
+use Rattle.search.specs.Areas.{columns}
+use Rattle.search.proofs.Growth.{begun_alone}
 use Rattle.search.proofs.Whole.{query_nodes}
 use Rattle.search.proofs.search_from_start.Goals as goal
 
-pub prepare-requires : goal.prepare-requires
-prepare-requires c =
-    let start = c in
-    (c.requires.1, c.requires.2, c.requires.3)
-
 pub run_search-requires : goal.run_search-requires
 run_search-requires c =
-    let start = c in
-    let goal_row = c.goal_row-row in
-    let prepare = c.prepare in
-    let p = c.requires in
-    (record { formed = p.0; goal_row = goal_row.ensures }, prepare.ensures.proper _)
+    let s = c.args.search.now in
+    let after = c.begin.ensures in
+    let begun = after.state (road_at (contents s.sheet)) (query_at s) (query_nodes s.sheet s.query ∙ sym c.requires.1) (sym c.heuristic-far.ensures) in
+    ((after.same_room.nodes ∙ c.requires.1, rw (after.same_room.slots, ← c.requires.1) (after.proper _)), begun_alone _ _ (columns c.begin.new.self) _ _ begun)
 
-pub returns : goal.returns
+pub returns-clause-found : goal.returns-clause-found
 unfolding search_within
-returns c = let start = c in
-    let prepare = c.prepare in
-    let heuristic = c.heuristic-far in
-    let run-search = c.run_search in
-    let a = c.args in
-    let t = sheet_of a.s.now a.c in
-    let q = query_on t a.query in
-    let begun = prepare.ensures.state (road_at t) q (query_nodes a.s.now a.c a.query) (sym heuristic.ensures) in record { stands = run-search.ensures.stands; found = λ steps. run-search.ensures.found steps ∙ ap (run steps a.slots a.slots q) begun }
+returns-clause-found c = λ steps.
+    let s = c.args.search.now in
+    let after = c.begin.ensures in
+    let begun = after.state (road_at (contents s.sheet)) (query_at s) (query_nodes s.sheet s.query ∙ sym c.requires.1) (sym c.heuristic-far.ensures) in
+    rw after.same_room.slots at (c.run_search.ensures.found steps) ∙ ap (run steps c.args.areas.now.slots c.args.areas.now.slots (query_at s)) (rw c.requires.1 at begun)

@@ -1,14 +1,8 @@
+use Rattle.std.proofs.Common.{◌≡◌, take}
 use Rattle.model.specs.Lists.{fold}
-use Rattle.model.specs.Numbers.{fmin, infinity}
-use lib.ListN.{take}
-use mathlib.Core.Path.{◌≡◌}
-use Prim.Native.Nat.{◌-◌, ◌≤◌}
+use Rattle.model.specs.Numbers.{infinity}
+use Rattle.candidates.proofs.Distances.{nearer_of}
 use Rattle.candidates.proofs.closest.least_of.Given as goal
 
-abbrev pub invariant-loop-k : goal.invariant-loop-k
-invariant-loop-k l =
-    (l.k ≤ l.n) × (l.least ≡ fold (λ d x. fmin d x.distance) infinity (take l.k l.xs.items))
-
-abbrev pub decreases-loop-k : goal.decreases-loop-k
-decreases-loop-k l =
-    l.n - l.k
+abbrev pub invariant-loop-x : goal.invariant-loop-x
+invariant-loop-x l = l.least ≡ fold nearer_of infinity (take l.x-index l.xs)

@@ -1,31 +1,32 @@
-use Rattle.candidates.proofs.Rules.{all_kept, best_kept}
-use Rattle.candidates.proofs.Pointwise.{away_amount}
-use Rattle.candidates.proofs.Distances.{alike}
-use Rattle.sheet.proofs.MeasuredPoints.{candidates_few}
-use Rattle.model.specs.Sheet.{sheet_of}
+use Rattle.std.proofs.Common.{◌≤◌, ◌∙◌, refl, sym, ap, arith, length, take}
+use lib.ListN.{length-map}
 use Rattle.model.specs.declared.Settings.{Settings}
-use native.Mathlib.Omega.{arith}
-use mathlib.Core.Path.{refl, ap, ◌∙◌}
-use Prim.Native.Nat.{◌≤◌}
+use Rattle.model.specs.Candidates.{nearest}
+use Rattle.sheet.specs.Contents.{contents}
+use Rattle.candidates.specs.Found.{by_number, kept_at, passing_at}
+use Rattle.candidates.specs.declared.closest.Seen.{Seen}
+use Rattle.candidates.specs.Nearest.{least_of, seen_of}
+use Rattle.candidates.proofs.Kept.{kept_distant}
+use Rattle.candidates.proofs.Listed.{candidates_cut, best_are}
+use Rattle.candidates.proofs.Distances.{alike, least_is, all_kept, away_amount}
 use Rattle.candidates.proofs.closest.nearest.Goals as goal
 
-pub look-all-requires : goal.look-all-requires
-look-all-requires c = c.requires
-
-pub overflow_cast-most : goal.overflow_cast-most
-overflow_cast-most c = let few : c.args.set.max_candidates ≤ 64 = rw c.requires.2 (candidates_few c.args.s.now c.args.c c.requires.0) in record { fits = omega arith }
-
 pub returns-then-uncut : goal.returns-then-uncut
-returns-then-uncut c = let a = c.args in all_kept (sheet_of a.s.now a.c) a.i a.set.max_candidates (ap (λ (x : Settings). x.max_candidates) c.requires.2) c.look-all.result c.look-all.ensures c.if-uncut.true
-
-pub order_rows-xs-requires : goal.order_rows-xs-requires
-order_rows-xs-requires c = c.requires
-
-pub least_of-requires : goal.least_of-requires
-least_of-requires c = rw c.requires.2 (candidates_few c.args.s.now c.args.c c.requires.0)
+returns-then-uncut c =
+    let s = c.args.sheet.now in
+    let all = kept_at (contents s) c.args.i in
+    let seen = c.look-all.ensures ∙ ap seen_of c.new.ensures.0 in
+    let few : length all ≤ (contents s).settings.max_candidates =
+    omega (arith, ap (λ (x : Seen). x.passing) seen, length-map all by_number, c.if-uncut.true, c.from-most.ensures, ap (λ (x : Settings). x.max_candidates) c.requires.1) in
+    rw (ap (λ (x : Seen). x.least) seen ∙ least_is all) (all_kept (contents s) c.args.i (kept_distant s.bytes.now s.counts c.args.i c.requires.0 s.well_formed) few)
 
 pub returns : goal.returns
-returns c = let a = c.args in let p = c.requires in
-    let is = c.least_of.ensures ∙ best_kept (sheet_of a.s.now a.c) a.i a.set.max_candidates (ap (λ (x : Settings). x.max_candidates) p.2) c.order_rows-xs.result c.order_rows-xs.ensures (omega (arith, c.if-uncut.false, c.order_rows-xs.ensures.count, c.look-all.ensures.passing)) in
-    let m = away_amount a.s.now a.c p.0 a.set p.2 a.i p.1 in
+returns c =
+    let s = c.args.sheet.now in
+    let t = contents s in
+    let most = c.from-most.ensures ∙ ap (λ (x : Settings). x.max_candidates) c.requires.1 in
+    let best = rw c.new-2.ensures.0 at c.of-best.ensures.are in
+    let is = c.least_of.ensures ∙ ap least_of (c.as_slice.ensures.are ∙ best ∙ best_are s.bytes.now s.counts c.args.i c.requires.0 s.well_formed c.from-most.result) ∙ least_is (take c.from-most.result (passing_at t c.args.i))
+    ∙ ap (λ n. nearest (take n (passing_at t c.args.i))) most ∙ ap nearest (sym (candidates_cut t c.args.i)) in
+    let m = away_amount t c.args.i (kept_distant s.bytes.now s.counts c.args.i c.requires.0 s.well_formed) in
     rw is (alike _ _ m m refl)

@@ -1,13 +1,10 @@
-use Prim.Native.Nat.{◌-◌}
-use lib.ListN.{length}
-use Rattle.model.specs.Sheet.{sheet_of}
+use Prim.Native.Nat.{◌-◌, ◌*◌}
+use Rattle.sheet.specs.Contents.{contents}
 use Rattle.ends.proofs.Turns.{Walking}
 use Rattle.ends.proofs.walks.extend.Given as goal
 
 abbrev pub invariant-loop-x : goal.invariant-loop-x
-invariant-loop-x l =
-    Walking (sheet_of l.s l.c) l.forward l.cap l.initial.ids l.c.e l.n l.r l.ids l.road l.end l.metres
+invariant-loop-x g l = Walking (contents l.sheet) g.D.Direction.forward l.cap l.path l.sheet.counts.e l.r l.room l.road l.count l.metres
 
 abbrev pub decreases-loop-x : goal.decreases-loop-x
-decreases-loop-x l =
-    length l.initial.ids - l.end
+decreases-loop-x g l = 2 * l.sheet.counts.n - l.count

@@ -1,28 +1,40 @@
-use Rattle.full_path.specs.Left.{middle_numbers, size_of, numbers_of, Skips}
-use Rattle.full_path.proofs.Writing.{skips_few, tail_put, appended_at}
-use Rattle.full_path.proofs.Lookup.{numbers_size, size_few}
-use Rattle.full_path.specs.Left.{middle_numbers, numbers_of, Skips}
+use Rattle.std.proofs.Common.{◌≡◌, ◌+◌, ◌≤◌, ◌<◌, length, take, drop, arith, rules, ap, sym, ◌∙◌, length-append, length-take-le, take-append-drop}
+use Rattle.sheet.specs.Contents.{contents}
+use Rattle.model.specs.Lists.{last}
+use Rattle.model.specs.Sheet.{road_at}
 use Rattle.search.proofs.Walks.{back_size}
-use Rattle.model.specs.Sheet.{sheet_of, road_at}
-use native.Mathlib.Omega.{arith}
-use Prim.Native.Nat.{ℕ, ◌-◌}
-use mathlib.Core.Option.{Option}
-use mathlib.Core.Path.{refl, subst}
+use Rattle.full_path.specs.Left.{terminal_numbers, middle_numbers, numbers_of, number_as}
+use Rattle.full_path.proofs.Behind.{last_as, one_road, some_before, skipped, kept, appended_here, appended_over}
+use Rattle.full_path.proofs.Writing.{behind, numbers_few}
+use Rattle.full_path.proofs.Numbers.{numbers_are, append_numbers}
 use Rattle.full_path.proofs.path.append_leg.Goals as goal
-
-pub last_written-last-requires : goal.last_written-last-requires
-last_written-last-requires c = omega (arith, c.requires.2)
-
-pub overflow_sub-from : goal.overflow_sub-from
-overflow_sub-from c = let a = c.args in let t = sheet_of a.s.now a.c in let ns = numbers_of a.r (middle_numbers t a.came_from.now a.r.middle) in
-    skips_few a.ids.now ns a.n c.skip_of-skip.result (subst (λ (o : Option ℕ). Skips o ns c.skip_of-skip.result) c.last_written-last.ensures c.skip_of-skip.ensures)
-
-pub slice_bounds-write_leg-count : goal.slice_bounds-write_leg-count
-slice_bounds-write_leg-count c = omega (arith, c.requires.2)
+use Rattle.full_path.proofs.path.append_leg.Goals.{then-is_some, else-is_some, then-twice, else-twice}
 
 pub returns : goal.returns
-returns c = let a = c.args in let t = sheet_of a.s.now a.c in let ks = middle_numbers t a.came_from.now a.r.middle in let ns = numbers_of a.r ks in
-    let room = back_size (road_at t) a.came_from.now a.r.middle.count a.r.middle.goal in
-    let size = numbers_size a.r ks (omega (arith, room)) in
-    let skips = subst (λ (o : Option ℕ). Skips o ns c.skip_of-skip.result) c.last_written-last.ensures c.skip_of-skip.ensures in
-    appended_at a.ids.now ns _ a.n c.skip_of-skip.result (a.n - c.skip_of-skip.result) (omega (arith, size, size_few a.r, c.requires.2)) skips refl (rw size (tail_put a.ids.now _ ns (a.n - c.skip_of-skip.result) (size_of a.r) (omega (arith, c.requires.2)) c.write_leg.ensures))
+returns c =
+    let r = c.args.r.now in
+    let ids = c.args.ids.now in
+    let n = c.args.n in
+    let from = c.if-twice.from in
+    let t = contents c.args.sheet.now in
+    let ks = middle_numbers t c.args.came_from.now r.middle in
+    let ns = numbers_of r ks in
+    let size : length ks ≡ r.middle.count = back_size (road_at t) c.args.came_from.now r.middle.count r.middle.goal in
+    let room : n + length ns ≤ length ids = omega (arith, numbers_few r ks) in
+    let before : number_as c.copied-last.result ≡ last (take n ids) = ap number_as (c.copied-last.ensures ∙ c.last.ensures.value) ∙ last_as (take n ids) in
+    let o = c.copied-last.result in
+    let p = c.first_number-first.result in
+    let twice : c.if-is_some.twice ≡ one_road o p = elim c.if-is_some.branch [
+      | then-is_some v ↦ rw (sym c.is_some.ensures ∙ v.if-is_some.true) (v.twice-is ∙ v.eq-twice.ensures)
+      | else-is_some v ↦ rw (sym c.is_some.ensures ∙ v.if-is_some.false) (v.twice-is ∙ v.if-is_some.false)
+    ] in
+    elim c.if-twice.branch [
+      | then-twice w ↦
+          let same = skipped o p _ ns before c.first_number-first.ensures (sym twice ∙ w.if-twice.true) in
+          let some : 0 < n = some_before ids n same.0 same.1 in
+          let front : length (take from ids) ≡ from = length-take-le from ids (omega arith) in
+          appended_over ids ns _ n from room (behind ids ids (take from ids) ns _ from (sym front) (omega arith) (rw front (sym (take-append-drop from ids))) c.write_leg.ensures) (omega arith) (omega arith) same.0 same.1 same.2
+      | else-twice w ↦
+          let front : length (take from ids) ≡ from = length-take-le from ids (omega arith) in
+          appended_here ids ns _ n from room (behind ids ids (take from ids) ns _ from (sym front) (omega arith) (rw front (sym (take-append-drop from ids))) c.write_leg.ensures) (omega arith) w.from-is (kept o p _ ns before c.first_number-first.ensures (sym twice ∙ w.if-twice.false))
+    ]

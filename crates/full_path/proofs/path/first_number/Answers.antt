@@ -1,25 +1,31 @@
-use Rattle.full_path.proofs.Lookup.{terminal_one, terminal_none, number_first, number_middle, number_last}
-use Rattle.full_path.specs.Left.{middle_numbers}
+use Rattle.std.proofs.Common.{◌≡◌, ◌<◌, length, arith, rules, ap, sym, ◌∙◌, append_assoc}
+use Rattle.std.specs.Option.{option_map}
+use Rattle.std.proofs.Math.Option.{some}
+use Rattle.sheet.specs.Contents.{contents}
+use Rattle.model.specs.Lists.{head}
+use Rattle.model.specs.Sheet.{road_at}
+use Rattle.search.specs.Areas.{back_way}
 use Rattle.search.proofs.Walks.{back_size}
-use Rattle.model.specs.Sheet.{sheet_of, road_at}
-use mathlib.Core.Path.{◌∙◌}
-use native.Mathlib.Omega.{arith}
+use Rattle.full_path.specs.Left.{terminal_numbers, middle_numbers, number_as}
+use Rattle.full_path.proofs.Writing.{head_front, head_terminal}
 use Rattle.full_path.proofs.path.first_number.Goals as goal
 
-pub returns-then-r : goal.returns-then-r
-returns-then-r c = let a = c.args in let t = sheet_of a.s.now a.c in let ks = middle_numbers t a.came_from.now a.r.middle in
-    let room = back_size (road_at t) a.came_from.now a.r.middle.count a.r.middle.goal in
-    number_first a.r ks (omega (arith, room)) 1 0 (terminal_one _ _ _ c.if-r.true) (omega arith)
+pub returns-in-Some : goal.returns-in-Some
+unfolding head
+returns-in-Some c = rw c.in-Some.is
 
-pub first_back-requires : goal.first_back-requires
-first_back-requires c = let p = c.requires in let w = p.1 c.if-n-gt0.true in (p.0, w.0, w.1, w.2)
-
-pub returns-then-n-gt0 : goal.returns-then-n-gt0
-returns-then-n-gt0 c = let a = c.args in let t = sheet_of a.s.now a.c in let ks = middle_numbers t a.came_from.now a.r.middle in
-    let room = back_size (road_at t) a.came_from.now a.r.middle.count a.r.middle.goal in
-    c.first_back.ensures ∙ number_middle a.r ks (omega (arith, room)) 0 0 (terminal_none _ _ _ c.if-r.false) (omega arith) (omega (arith, c.if-n-gt0.true))
+pub returns-then-m-gt0 : goal.returns-then-m-gt0
+returns-then-m-gt0 c =
+    let r = c.args.r.now in
+    let t = contents c.args.sheet.now in
+    let ks = middle_numbers t c.args.came_from.now r.middle in
+    let size : length ks ≡ r.middle.count = back_size (road_at t) c.args.came_from.now r.middle.count r.middle.goal in
+    rw c.in_default.is (ap some c.first_back-number.ensures ∙ sym (head_front ks (terminal_numbers r.tail) (omega arith)))
 
 pub returns : goal.returns
-returns c = let a = c.args in let t = sheet_of a.s.now a.c in let ks = middle_numbers t a.came_from.now a.r.middle in
-    let room = back_size (road_at t) a.came_from.now a.r.middle.count a.r.middle.goal in
-    number_last a.r ks (omega (arith, room)) 0 0 (terminal_none _ _ _ c.if-r.false) (omega arith) (omega (arith, c.if-n-gt0.false)) c.requires.2
+unfolding back_way
+returns c =
+    let r = c.args.r.now in
+    let none : r.middle.count ≡ 0 = omega arith in
+    let is : c.map.result ≡ option_map (λ x. x.road.number) r.tail = search rules in
+    rw (c.in_default.is, none) (ap number_as is ∙ head_terminal r.tail)

@@ -1,19 +1,17 @@
-use Rattle.full_path.proofs.Writing.{leg_written}
-use Rattle.full_path.specs.Left.{middle_numbers}
+use Rattle.std.proofs.Common.{◌≡◌, length, arith}
+use Rattle.sheet.specs.Contents.{contents}
+use Rattle.model.specs.Sheet.{road_at}
 use Rattle.search.proofs.Walks.{back_size}
-use Rattle.model.specs.Sheet.{sheet_of, road_at}
-use native.Mathlib.Omega.{arith}
-use mathlib.Core.Path.{refl}
+use Rattle.full_path.specs.Left.{terminal_numbers, middle_numbers}
+use Rattle.full_path.proofs.Writing.{three_parts}
 use Rattle.full_path.proofs.path.write_leg.Goals as goal
 
-pub write_terminal-first-requires : goal.write_terminal-first-requires
-write_terminal-first-requires c = omega (arith, c.requires.2)
-
-pub slice_bounds-write_middle-count : goal.slice_bounds-write_middle-count
-slice_bounds-write_middle-count c = omega (arith, c.requires.2, c.write_terminal-first.ensures.1, c.write_terminal-first.auto.out)
-
 pub returns : goal.returns
-returns c = let a = c.args in let t = sheet_of a.s.now a.c in
-    let size = back_size (road_at t) a.came_from.now a.r.middle.count a.r.middle.goal in
-    let w = c.write_terminal-first in let v = c.write_terminal in
-    leg_written a.r (middle_numbers t a.came_from.now a.r.middle) a.out.now _ _ _ _ w.result v.result size c.requires.2 w.ensures.0 w.ensures.1 v.ensures.0 v.ensures.1 w.ensures.2 c.write_middle.ensures refl v.ensures.2
+returns c =
+    let r = c.args.r.now in
+    let t = contents c.args.sheet.now in
+    let ks = middle_numbers t c.args.came_from.now r.middle in
+    let size : length ks ≡ r.middle.count = back_size (road_at t) c.args.came_from.now r.middle.count r.middle.goal in
+    let first = c.write_terminal-first.ensures in
+    let last = c.write_terminal.ensures in
+    three_parts c.args.out.now (terminal_numbers r.head) ks (terminal_numbers r.tail) _ _ _ _ r.middle.count _ first.0 size last.0 (omega (arith, first.0, first.1, last.0, last.1)) first.2 c.write_middle.ensures last.2

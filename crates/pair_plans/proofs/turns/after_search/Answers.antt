@@ -1,13 +1,12 @@
-use Rattle.pair_plans.proofs.AfterPair.{by_none, by_full, by_found}
-use Rattle.rules.specs.Code.{pair_as}
-use mathlib.Core.Path.{sym, ◌∙◌}
+use Rattle.std.proofs.Common.{sym, ap, ◌∙◌}
+use Rattle.model.specs.Legs.{after_search, goes_on, improve}
+use Rattle.rules.specs.Code.{best_of}
+use Rattle.pair_plans.specs.Turns.{way_between}
+use Rattle.pair_plans.proofs.Told.{told_found}
 use Rattle.pair_plans.proofs.turns.after_search.Goals as goal
 
-pub returns-in-Found : goal.returns-in-Found
-returns-in-Found c = let s = c.args in λ search nodes first last e. by_found s.b (pair_as s.start s.first s.end s.last) s.best search nodes _ _ s.bound first last _ _ (sym c.in-Found.is ∙ e) c.scored_over-next.result c.scored_over-next.ensures.0 c.scored_over-next.ensures.1 c.take_better.result c.take_better.ensures
-
-pub returns-in-Nothing : goal.returns-in-Nothing
-returns-in-Nothing c = let s = c.args in λ search nodes first last e. by_none s.b (pair_as s.start s.first s.end s.last) s.best search nodes _ (sym c.in-Nothing.is ∙ e)
-
-pub returns-in-Full : goal.returns-in-Full
-returns-in-Full c = let s = c.args in λ search nodes first last e. by_full s.b (pair_as s.start s.first s.end s.last) s.best search nodes _ (sym c.in-Full.is ∙ e)
+pub returns-in-Found-clause-means : goal.returns-in-Found-clause-means
+unfolding after_search
+returns-in-Found-clause-means c search e = let a = c.args in
+    let w = told_found (way_between search a.pair.now a.bound) _ _ (sym c.in-Found.is ∙ e) in
+    rw w.1 (ap goes_on (c.improve.ensures.better search ∙ ap (improve (best_of search a.best)) (c.scored_over-next.ensures.means search w.0 w.1 w.2)))

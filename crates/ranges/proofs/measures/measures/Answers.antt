@@ -1,8 +1,6 @@
-use Rattle.std.proofs.Common.{sym, ◌∙◌}
-use Rattle.ranges.proofs.Measuring.{measures_good}
+use Rattle.std.proofs.Common.{◌∙◌, sym}
+use Rattle.ranges.proofs.Running.{measures_run}
 use Rattle.ranges.proofs.measures.measures.Goals as goal
 
-pub returns-then-all_measured : goal.returns-then-all_measured
-returns-then-all_measured c =
-    let a = c.args in
-    measures_good a.s.now a.at a.rest a.off a.k (sym c.all_measured.ensures ∙ c.if-all_measured.true)
+pub returns : goal.returns
+returns c = let a = c.args in c.distances.ensures ∙ sym (measures_run a.s.now a.at a.off a.k)

@@ -1,18 +1,17 @@
-use native.Mathlib.Omega.{arith}
-use Rattle.road_network.proofs.Ways.{ahead_start, ahead_way, ahead_step, ahead_end}
+use mathlib.Core.Path.{refl}
+use Rattle.std.proofs.Common.{rules}
+use borrow.Author.Tests.{tests}
+use Rattle.std.proofs.lemmas.Iterator.{YieldsList-from_range, YieldsList-from_map}
+use Rattle.std.proofs.lemmas.Iterator.Consumers.{YieldsList-at}
+use Rattle.std.proofs.lemmas.Iterator.Search.{find_from_yields_List}
+use Rattle.model.specs.Judge.{entry_of}
+use Rattle.road_network.proofs.Ways.{ahead, ahead_is}
 use Rattle.road_network.proofs.graph.way_on.Goals as goal
 
-pub loop-j-init : goal.loop-j-init
-loop-j-init c = ahead_start _ _ _ c.target-v.ensures.0 c.requires.0 c.target-v.ensures.1 c.start-j.ensures.0 c.start-end.ensures.0
-
-pub returns-then-onward : goal.returns-then-onward
-returns-then-onward c = (ahead_way _ _ _ c.loop-j.invariant c.loop-j-test.true c.entry-x.ensures.0 c.target.ensures.0 c.source-from.ensures.0 c.if-onward.true, c.entry-x.ensures.1)
-
-pub loop-j-smaller : goal.loop-j-smaller
-loop-j-smaller c = omega arith
-
-pub loop-j-preserved : goal.loop-j-preserved
-loop-j-preserved c = ahead_step _ _ _ c.loop-j.invariant c.loop-j-test.true c.entry-x.ensures.0 c.target.ensures.0 c.source-from.ensures.0 c.if-onward.false
-
 pub returns : goal.returns
-returns c = ahead_end _ _ _ c.loop-j.invariant c.loop-j-test.false
+returns c =
+    let s = c.args.sheet.now.bytes.now in
+    let n = c.args.sheet.now.counts in
+    ahead_is s n c.args.r c.args.sheet.now.well_formed _ c.target-v.ensures c.start.ensures.0 c.start-2.ensures.0
+    (find_from_yields_List (ahead s n c.args.r) _ _ c.find.result c.find.ensures.ran
+    (YieldsList-from_map _ (entry_of s n) (YieldsList-at c.map.ensures.source (YieldsList-from_range _ _ _ refl refl)) c.map.ensures.closure (λ x r q k. search (rules, tests))) (λ x b q k. search (rules, tests)))

@@ -1,19 +1,18 @@
-use Prim.Native.Nat.{◌-◌, ◌≤◌}
 use Rattle.model.specs.Judge.{entry_of}
-use Rattle.model.specs.Sheet.{sheet_of, road_at}
+use Rattle.model.specs.Sheet.{road_at}
 use Rattle.model.specs.Search.{relax_all}
-use Rattle.search.specs.Query.{query_on}
-use Rattle.search.specs.Areas.{entry_from, columns, state_of}
+use Rattle.sheet.specs.Contents.{contents}
+use Rattle.search.specs.Query.{query_at}
+use Rattle.search.specs.Areas.{columns, state_at, SameRoom}
+use Rattle.search.specs.Answers.{entry_as}
 use Rattle.search.proofs.Relaxing.{Rest}
 use Rattle.search.proofs.relax.relax_all.Given as goal
 
 abbrev pub invariant-loop-i : goal.invariant-loop-i
 invariant-loop-i l =
-    (l.end ≤ l.c.e) × Rest l.c.n l.c.e l.slots (query_on (sheet_of l.s l.c) l.query) (entry_from l.u l.g) (road_at (sheet_of l.s l.c)) l.query.constraints (entry_of l.s l.c) l.end
-    (relax_all l.slots (query_on (sheet_of l.s l.c) l.query) (entry_from l.u l.g) ((query_on (sheet_of l.s l.c) l.query).leaving l.u) (state_of (road_at (sheet_of l.s l.c)) l.c.n (columns l.c.n l.slots l.initial.labels l.initial.came_from l.initial.entries l.initial.links l.first_len l.first_made)))
-    (columns l.c.n l.slots l.initial.labels l.initial.came_from l.initial.entries l.initial.links l.first_len l.first_made)
-    (columns l.c.n l.slots l.labels l.came_from l.entries l.links l.len l.made) l.i
-
-abbrev pub decreases-loop-i : goal.decreases-loop-i
-decreases-loop-i l =
-    l.end - l.i
+    let sheet = l.search.sheet in
+    let q = query_at l.search in
+    let x = entry_as l.entry in
+    SameRoom l.initial.areas l.areas × Rest sheet.counts.n sheet.counts.e l.initial.areas.slots q x (road_at (contents sheet)) l.search.query.constraints (entry_of sheet.bytes.now sheet.counts) l.end
+    (relax_all l.initial.areas.slots q x (q.leaving x.node) (state_at sheet l.initial.areas))
+    (columns l.initial.areas) (columns l.areas) l.i

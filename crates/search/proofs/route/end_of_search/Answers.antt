@@ -1,31 +1,45 @@
-use Rattle.search.proofs.Walks.{arrived_back, found_told}
-use Rattle.search.specs.Answers.{told, roads_in, Traced}
-use Rattle.search.specs.Query.{query_on}
-use Rattle.model.specs.Sheet.{sheet_of, road_at}
-use lib.Ieee.{nan}
-use lib.Seq.{get_or-take}
-use lib.ListN.{take, drop}
 use native.Mathlib.Omega.{arith}
+use Rattle.model.specs.Sheet.{road_at}
+use Rattle.sheet.specs.Contents.{contents}
+use Rattle.search.specs.Query.{query_on}
+use Rattle.search.specs.Answers.{told, roads_in, Traced}
+use Rattle.search.proofs.Walks.{found_told}
 use Rattle.search.proofs.route.end_of_search.Goals as goal
 
-pub count_back-n-requires : goal.count_back-n-requires
-count_back-n-requires c = let p = c.requires in (p.0, p.1, arrived_back c.in-Found.is p.3)
+pub returns-in-Err-clause-found : goal.returns-in-Err-clause-found
+unfolding told
+returns-in-Err-clause-found c = rw c.in-Err.is
 
-pub returns-in-Looking : goal.returns-in-Looking
-unfolding told Traced
-returns-in-Looking c = record { found = rw c.in-Looking.is; traced = tt }
+pub returns-in-Err-clause-traced : goal.returns-in-Err-clause-traced
+unfolding Traced
+returns-in-Err-clause-traced c = tt
 
-pub returns-in-Full : goal.returns-in-Full
-unfolding told Traced
-returns-in-Full c = record { found = rw c.in-Full.is; traced = tt }
+pub returns-in-Ok-false-clause-found : goal.returns-in-Ok-false-clause-found
+unfolding told
+returns-in-Ok-false-clause-found c = rw (c.in-Ok-false.is, c.in-Ok-false.field-0-test)
 
-pub returns-in-Found : goal.returns-in-Found
+pub returns-in-Ok-false-clause-traced : goal.returns-in-Ok-false-clause-traced
+unfolding Traced
+returns-in-Ok-false-clause-traced c = tt
+
+pub returns-in-Ok-true-clause-found : goal.returns-in-Ok-true-clause-found
+unfolding query_on
+returns-in-Ok-true-clause-found c =
+    let is = rw c.in-Ok-true.field-0-test at c.in-Ok-true.is in
+    let back = c.requires.reached is in
+    let a = c.args.areas.now in
+    rw is (found_told (road_at (contents c.args.search.now.sheet)) _ a.real.now a.penalised.now _ _ c.count_back-n.result (omega arith) back.reached (c.count_back-n.ensures.2 a.real.now a.penalised.now))
+
+pub returns-in-Ok-true-clause-traced : goal.returns-in-Ok-true-clause-traced
 unfolding query_on Traced roads_in
-returns-in-Found c = let p = c.requires in
-    let a = c.args in
-    let roads = road_at (sheet_of a.s.now a.c) in
-    let back = arrived_back c.in-Found.is p.3 in
-    let found = c.count_back-n in
-    let real = take a.c.n a.labels.now in
-    let penalised = drop a.c.n a.labels.now in
-    let way = found.ensures.2 real penalised in record { found = rw c.in-Found.is (found_told roads _ real penalised _ _ found.result p.1 back.reached way (get_or-take a.c.n a.labels.now _ nan p.1)); traced = rw c.in-Found.is (record { inside = p.1; size = back.size; few = omega (arith, found.ensures.0, p.1); leads = found.ensures.1; roads = way }) }
+returns-in-Ok-true-clause-traced c =
+    let is = rw c.in-Ok-true.field-0-test at c.in-Ok-true.is in
+    let back = c.requires.reached is in
+    let a = c.args.areas.now in
+    rw is (record {
+      inside = omega arith;
+      size = back.size;
+      few = omega (arith, c.count_back-n.ensures.0);
+      leads = c.count_back-n.ensures.1;
+      roads = c.count_back-n.ensures.2 a.real.now a.penalised.now;
+    })

@@ -1,18 +1,9 @@
+use Rattle.std.proofs.Common.{◌≡◌, ℕ, List, ◌++◌, take, drop}
+use Rattle.model.specs.Sheet.{road_at}
+use Rattle.sheet.specs.Contents.{contents}
 use Rattle.search.proofs.Walks.{Backed}
-use mathlib.Core.Path.{◌≡◌}
-use mathlib.Core.List.{List, ◌++◌}
-use Rattle.search.proofs.Walks.{Backed}
-use Rattle.model.specs.Sheet.{sheet_of, road_at}
-use lib.ListN.{take, drop}
-use Prim.Native.Nat.{ℕ}
-use mathlib.Core.List.{List, ◌++◌}
-use mathlib.Core.Path.{◌≡◌}
 use Rattle.search.proofs.route.write_back.Given as goal
 
 abbrev pub invariant-loop-i : goal.invariant-loop-i
 invariant-loop-i l =
-    (walked : List ℕ) × Backed l.c.e (road_at (sheet_of l.s l.c)) l.came_from l.c.n l.goal l.n walked l.i l.v × (l.out ≡ take l.i l.initial.out ++ (walked ++ drop l.n l.initial.out))
-
-abbrev pub decreases-loop-i : goal.decreases-loop-i
-decreases-loop-i l =
-    l.i
+    (walked : List ℕ) × Backed l.sheet.counts.e (road_at (contents l.sheet)) l.came_from l.sheet.counts.n l.goal l.n walked l.i l.v × (l.out ≡ take l.i l.initial.out ++ (walked ++ drop l.n l.initial.out))

@@ -1,17 +1,17 @@
-use Prim.Native.Nat.{◌-◌, ◌+◌}
-use Rattle.model.specs.Sheet.{sheet_of, road_at}
+use Rattle.std.proofs.Common.{◌+◌, ◌-◌, length}
+use Rattle.model.specs.Sheet.{road_at}
 use Rattle.model.specs.Search.{run}
-use Rattle.search.specs.Query.{query_on}
-use Rattle.search.specs.Areas.{columns, state_of}
+use Rattle.sheet.specs.Contents.{contents}
+use Rattle.search.specs.Query.{query_at}
+use Rattle.search.specs.Areas.{columns, state_at, SameRoom}
 use Rattle.search.proofs.Runs.{Running}
 use Rattle.search.proofs.turns.run_search.Given as goal
 
-abbrev pub invariant-loop-t : goal.invariant-loop-t
-invariant-loop-t l =
-    Running l.c.n l.c.e l.slots l.query.goal (query_on (sheet_of l.s l.c) l.query) (road_at (sheet_of l.s l.c))
-    (λ steps. run steps l.slots l.slots (query_on (sheet_of l.s l.c) l.query) (state_of (road_at (sheet_of l.s l.c)) l.c.n (columns l.c.n l.slots l.initial.labels l.initial.came_from l.initial.entries l.initial.links 1 1)))
-    (columns l.c.n l.slots l.initial.labels l.initial.came_from l.initial.entries l.initial.links 1 1) l.t.progress (columns l.c.n l.slots l.labels l.came_from l.entries l.links l.t.len l.t.made)
+abbrev pub invariant-loop-entry : goal.invariant-loop-entry
+invariant-loop-entry l =
+    SameRoom l.initial.areas l.areas × Running l.search.sheet.counts.n l.search.sheet.counts.e l.initial.areas.slots (query_at l.search) (road_at (contents l.search.sheet))
+    (λ steps. run steps l.initial.areas.slots l.initial.areas.slots (query_at l.search) (state_at l.search.sheet l.initial.areas))
+    (columns l.areas)
 
-abbrev pub decreases-loop-t : goal.decreases-loop-t
-decreases-loop-t l =
-    l.slots + l.t.len - l.t.made
+abbrev pub decreases-loop-entry : goal.decreases-loop-entry
+decreases-loop-entry l = l.initial.areas.slots + length l.areas.heap.items - l.areas.made

@@ -1,0 +1,93 @@
+// The best of some candidates, in order.
+ghost use Rattle.std.specs.Prelude.{◌≡◌, ◌≤◌, length, take, []};
+ghost use Rattle.model.specs.Layout.{most_measured};
+ghost use Rattle.model.specs.Lists.{insert, sort};
+ghost use Rattle.bounds.specs.Amounts.{Amount};
+ghost use Rattle.candidates.specs.Found.{lower, Measured, Rising};
+
+use crate::candidate::Candidate;
+use crate::passing::Passing;
+use std::marker::Model;
+
+// What stands in a place that is not used. A constant, so that zeros are stored in each place: the result of a call would be copied into it.
+const NOTHING: Candidate = Candidate {
+    edge_idx: 0,
+    distance_m: 0.0,
+    bearing_diff: 0.0,
+    frc_diff: 0,
+    fow_score: 0.0,
+    score: 0.0,
+    projection_fraction: 0.0,
+};
+
+// At most N candidates, in the first `count` places.
+#[derive(Drop)]
+pub struct Best<const N: usize> {
+    count: usize,
+    items: [Candidate; N],
+}
+
+// Clauses see them in order: no score is below an earlier one.
+impl<const N: usize> Model for Best<N> {
+    ghost use Rattle.std.specs.Prelude.{◌≤◌, List, take};
+    ghost use Rattle.candidates.specs.declared.candidate.Candidate as code;
+
+    ghost Value = { List code.Candidate };
+
+    ghost use Rattle.candidates.specs.Found.{Rising};
+
+    ghost view = { λ b. take b.count b.items };
+
+    ghost invariant = { λ b. (b.count ≤ N) × Rising (take b.count b.items) };
+}
+
+impl<const N: usize> Best<N> {
+    // The best `most` of the rows that are left. Among equal scores the earlier stays in front.
+    #[tactic(auto, using(crate::proofs::Inserting::rising_none, crate::proofs::Inserting::kept_best, model::proofs::Members::here), unfolding(model::specs::Lists::fold))]
+    pub fn of(rows: Passing<'_>, most: usize) -> Self
+        requires measured { Measured rows }
+        requires room { (most ≤ N) × (N ≤ most_measured) }
+        ensures are { result ≡ take most (sort lower rows.entry) }
+        ensures rising { Rising result }
+    {
+        let mut best = Best::new();
+        for x in rows {
+            best.insert(x, most);
+        }
+        best
+    }
+
+    pub fn new() -> Self
+        ensures { result ≡ [] }
+    {
+        Best {
+            count: 0,
+            items: [NOTHING; N],
+        }
+    }
+
+    pub fn as_slice(&self) -> &[Candidate]
+        ensures are { result.now ≡ self.now }
+        ensures few { length self.now ≤ N }
+        ensures rising { Rising self.now }
+    {
+        &self.items[..self.count]
+    }
+
+    // x goes behind those whose scores are not above its own. Where `most` are there already, the last one falls out, or x is not taken.
+    pub fn insert(&mut self, x: Candidate, most: usize)
+        requires scored { Amount x.score }
+        requires room { (length self.old ≤ most) × (most ≤ N) }
+        ensures are { self.new ≡ take most (insert lower x self.old) }
+        ensures rising { Rising self.new }
+    {
+        let place = self.items[..self.count].partition_point(|y| !(x.score < y.score));
+        if place < most {
+            let last = self.count.min(most - 1);
+            let items = &mut self.items[..];
+            items[place..=last].rotate_right(1);
+            items[place] = x;
+            self.count = last + 1;
+        }
+    }
+}

@@ -1,0 +1,29 @@
+-- A path that stands for one path, whatever a search finds, has no roads between its terminal ones.
+use Rattle.std.proofs.Common.{◌≡◌, ℕ, zero, suc, Some, false, List, [], ◌∷◌, ◌++◌, map, length, take, refl, sym, ap, ◌∙◌, arith, length-append}
+use Rattle.std.proofs.Math.Option as definition
+use Rattle.model.specs.declared.Road.{Road}
+use Rattle.model.specs.Numbers.{f0}
+use Rattle.model.specs.Search.{found}
+use Rattle.model.specs.Legs as legs
+use Rattle.model.specs.Legs.{EdgeCoverage, MiddleSearch, whole}
+use Rattle.search.specs.Answers.{roads_in}
+use Rattle.rules.specs.declared.Scored.{Scored}
+use Rattle.rules.specs.Code.{middle_in, no_search, BestIs}
+
+abbrev some_road : Road
+some_road = record { number = 0; id = 0; length_m = f0; source = 0; target = 0; frc = 0; fow = 0; access = false }
+
+abbrev one_road : MiddleSearch
+one_road start goal bound = found f0 (some_road ∷ [])
+
+none_between : (n : ℕ) (head tail : List EdgeCoverage) → head ++ map whole (take n (some_road ∷ [])) ++ tail ≡ head ++ map whole (take n []) ++ tail → n ≡ 0
+none_between zero head tail e = refl
+none_between (suc n) head tail e = absurd (omega (arith, length-append {A = EdgeCoverage}, ap length e))
+
+coverages : definition.Option legs.Scored → List EdgeCoverage
+coverages definition.none = []
+coverages (definition.some s) = s.path.coverages
+
+pub best_alone : (b : Scored) (s : definition.Option legs.Scored) → BestIs (Some b) s → b.path.middle.count ≡ 0
+unfolding middle_in roads_in coverages
+best_alone b s is = none_between b.path.middle.count _ _ (ap coverages (is one_road ∙ sym (is no_search)))

@@ -1,6 +1,0 @@
-use mathlib.Core.Path.{sym, ◌∙◌}
-use Rattle.model.proofs.Parsed.{first_is}
-use Rattle.sheet.proofs.distances.from_first.Goals as goal
-
-pub returns : goal.returns
-returns c = c.distance.ensures ∙ sym (first_is _ _ _ c.requires.1)

@@ -1,6 +1,0 @@
-use mathlib.Core.Path.{sym, ◌∙◌}
-use Rattle.model.proofs.Parsed.{last_is}
-use Rattle.sheet.proofs.distances.from_last.Goals as goal
-
-pub returns : goal.returns
-returns c = c.distance.ensures ∙ sym (last_is _ _ _ c.requires.1)

@@ -1,7 +1,0 @@
-use Rattle.model.proofs.Fields.{entry_below}
-use Rattle.model.specs.Judge.{entry_of}
-use Rattle.sheet.proofs.numbers.entry.Goals as goal
-
-pub returns : goal.returns
-unfolding entry_of
-returns c = let is = rw c.numbers_at.ensures at c.count_at.ensures.0 in (is, rw is (entry_below _ _ c.requires.0 _ c.requires.1))

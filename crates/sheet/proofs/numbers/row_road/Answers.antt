@@ -1,7 +1,0 @@
-use Rattle.model.proofs.Fields.{row_road_below}
-use Rattle.model.specs.Judge.{row_road}
-use Rattle.sheet.proofs.numbers.row_road.Goals as goal
-
-pub returns : goal.returns
-unfolding row_road
-returns c = let is = rw c.rows_at.ensures at c.count_at.ensures.0 in (is, rw is (row_road_below _ _ c.requires.0 _ c.requires.1))

@@ -1,7 +1,0 @@
-use mathlib.Core.Path.{sym}
-use Rattle.model.proofs.Fields.{class_most}
-use Rattle.sheet.proofs.RoadFields.{frc_is}
-use Rattle.sheet.proofs.roads.frc.Goals as goal
-
-pub returns : goal.returns
-returns c = rw c.roads_at.ensures (sym (frc_is _ _ _ c.requires.1), (class_most _ _ c.requires.0.sound _ c.requires.1).0)
