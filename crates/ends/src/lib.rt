@@ -34,6 +34,7 @@ pub struct Final {
 }
 
 // The walk at an end of the path in the first n of `ids`, kept only if the point there is strictly nearer the new end.
+// A count beside the slice, here and below: what is added goes into the room behind.
 pub fn walk_at<E: End>(
     sheet: &Sheet<'_>,
     ids: &mut [usize],

@@ -24,6 +24,7 @@ use model::error::DecodeError;
 use sheet::Sheet;
 
 // A refusal's answer: zeros in both lists.
+// Two slices, here and below: a struct of both would need their references' names in every contract.
 #[tactic(auto, unfolding(model::specs::Call::answered, model::specs::Call::written, model::specs::Lists::pad, answers::specs::Room::answer_of))]
 fn refuse(e: DecodeError, ids: &mut [u64], lengths: &mut [f64]) -> Answer
     ensures { (t : definition.Sheet) → decoded result ids.new lengths.new ≡ answered t (lists ids.old lengths.old) (refused (number_of e) (place_a e) (place_b e)) }

@@ -66,6 +66,7 @@ fn write_leg(sheet: &Sheet<'_>, r: &PathResult, came_from: &[usize], out: &mut [
 }
 
 // The roads of a route behind the first n of `ids`; over the last of these where it is the route's first road, so that none stands twice. From which place on they stand.
+// A count beside the slice: the roads go into the room behind.
 pub fn append_leg(
     sheet: &Sheet<'_>,
     r: &PathResult,

@@ -88,7 +88,7 @@ pub struct Answered {
     pub coverage: f64,
 }
 
-// The number of a match.
+// The number of a match. A number, since C hosts read it.
 const MATCHED: usize = 0;
 
 impl From<Answer> for Answered {

@@ -1,8 +1,8 @@
 // One leg: the way between two candidates' roads, the pairs one after the other, and find_best_path.
 #![tactic(auto)]
 
-mod middle;
-mod tries;
+pub mod middle;
+pub mod tries;
 
 ghost use Rattle.bounds.specs.Amounts.{Amount};
 

@@ -13,7 +13,7 @@ impl Leg<'_> {
 
     // What lies between the nodes `start` and `goal`. The marks lead back over its roads.
     #[tactic(auto, using(crate::proofs::Middles::already_there, crate::proofs::Middles::searched, crate::proofs::Middles::traced_led))]
-    pub(crate) fn middle(
+    pub fn middle(
         &self,
         start: usize,
         goal: usize,
@@ -39,7 +39,7 @@ impl Leg<'_> {
 
     // The search of a middle once more, where it has roads: the marks lead back over them afterwards. It finds what it found, so it cannot be full (`found_again`).
     #[tactic(auto, using(crate::proofs::Middles::led_again))]
-    pub(crate) fn search_again(&self, m: Middle, areas: &mut SearchAreas<'_>)
+    pub fn search_again(&self, m: Middle, areas: &mut SearchAreas<'_>)
         requires room { areas.old.nodes ≡ self.now.sheet.counts.n }
         requires remembers { MiddleRemembers (search_of self.now areas.old) self.now.sheet.counts.n m }
         ensures same_room { SameRoom areas.old areas.new }

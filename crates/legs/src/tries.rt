@@ -21,7 +21,7 @@ impl Leg<'_> {
 
     // The best so far after one pair: by its plan, and by a search if it needs one.
     #[tactic(auto, unfolding(model::specs::Legs::try_pair, model::specs::Legs::after_pair, model::specs::Legs::middle_of))]
-    fn try_pair(
+    pub fn try_pair(
         &self,
         start: &Candidate,
         end: &Candidate,
@@ -50,7 +50,7 @@ impl Leg<'_> {
 
     // The best after the pairs in the order of their sums, until one cannot win or the heap is used up.
     #[tactic(auto, using(crate::proofs::Going::all_tried, candidates::proofs::Inserting::length_sort), unfolding(model::specs::Legs::next_pair))]
-    pub(crate) fn try_pairs(
+    pub fn try_pairs(
         &self,
         starts: &[Candidate],
         ends: &[Candidate],

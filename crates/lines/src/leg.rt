@@ -17,7 +17,7 @@ use search::areas::SearchAreas;
 use sheet::Sheet;
 
 // What the leg from point i accepts.
-fn leg_limits(sheet: &Sheet<'_>, i: usize) -> Limits
+pub fn leg_limits(sheet: &Sheet<'_>, i: usize) -> Limits
     requires { i < sheet.now.counts.p }
     ensures { result ≡ leg_limits (contents sheet.now) i }
 {
@@ -36,7 +36,7 @@ fn refused_leg(i: usize, e: LegError) -> DecodeError
 }
 
 // What a leg leaves of its route: its roads behind the first `at` of `ids`, but for a first one that is the last written, and its coverages behind those that are there.
-fn leave(
+pub fn leave(
     sheet: &Sheet<'_>,
     covering: Covering,
     dnp: f64,

@@ -39,14 +39,14 @@ impl Pair {
 // ---- both points on one road
 impl Pair {
     // An excellent match: both points strictly nearer than 5 metres.
-    fn excellent(&self) -> bool
+    pub fn excellent(&self) -> bool
         ensures { result ≡ excellent (pair_of self.now) }
     {
         self.start.candidate.distance_m < 5.0 && self.end.candidate.distance_m < 5.0
     }
 
     // The least length; an excellent match has none.
-    fn effective_min(&self, limits: Limits) -> f64
+    pub fn effective_min(&self, limits: Limits) -> f64
         ensures { result ≡ effective_min limits (pair_of self.now) }
     {
         if self.excellent() {
@@ -57,7 +57,7 @@ impl Pair {
     }
 
     // The greatest length; an excellent match has three times as much.
-    fn effective_max(&self, limits: Limits) -> f64
+    pub fn effective_max(&self, limits: Limits) -> f64
         ensures { result ≡ effective_max limits (pair_of self.now) }
     {
         if self.excellent() {
