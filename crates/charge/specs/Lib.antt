@@ -1,4 +1,4 @@
--- Request W12: what a path costs, in its order.
+-- What a path costs, in its order.
 pub mod Metres
 pub mod Roads
 pub mod Outcome

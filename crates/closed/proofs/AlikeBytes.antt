@@ -1,26 +1,21 @@
 -- Byte sequences that are alike hold sheets that are alike: each part of a sheet is a function of its section, and a section's length gives its count.
-use Prim.Native.Nat.{ℕ, ◌+◌, ◌*◌, ◌≤◌, ◌<◌}
+use Prim.Native.Nat.{ℕ, ◌+◌, ◌*◌, ◌<◌}
 use mathlib.Core.Path.{◌≡◌, sym, ap, ◌∙◌}
 use mathlib.Core.List.{List}
 use native.Mathlib.Nat.{eq_of_mul-eq-mul_right}
 use native.Mathlib.Omega.{arith}
-use lib.ListN.{length, drop, length-drop}
-use lib.Seq.{length-take-le}
+use lib.ListN.{length}
 use Rattle.model.specs.declared.Counts.{Counts}
 use Rattle.model.specs.Lists.{tabulate}
-use Rattle.model.specs.Bytes.{section}
 use Rattle.model.specs.Layout.{counts_of, points_at, distances_at, goal_width, road_bytes}
 use Rattle.model.specs.Judge.{WellFormed}
 use Rattle.model.specs.Sheet.{settings_of, measured_point, road_of, goal_of, sheet_of, parsed, no_road, road_at}
 use Rattle.model.proofs.Members.{length_tab, getD_table}
+use Rattle.model.proofs.Sections.{section_length}
 use Rattle.closed.specs.Closed.{is_closed, Agree, Alike}
 use Rattle.closed.proofs.AlikeSheets.{is_open, AgreeSheets, AlikeSheets}
 
 -- ---- one sheet
-
--- a section within the sheet is full
-section_length : (at n : ℕ) (s : List ℕ) → at + n ≤ length s → length (section at n s) ≡ n
-section_length at n s h = length-take-le n (drop at s) (omega (arith, length-drop at s))
 
 module _ (s : List ℕ) where
   -- the roads, from their bytes
@@ -45,15 +40,15 @@ module _ (x y : List ℕ) (wx : WellFormed x (counts_of x)) (wy : WellFormed y (
   points_eq : (counts_of x).p ≡ (counts_of y).p
   points_eq =
       let e : (counts_of x).p * 24 ≡ (counts_of y).p * 24 =
-      sym (section_length points_at ((counts_of x).p * 24) x (omega (arith, wx.sound.whole)))
-      ∙ ap length h.parts.points ∙ section_length points_at ((counts_of y).p * 24) y (omega (arith, wy.sound.whole)) in
+      sym (section_length x points_at ((counts_of x).p * 24) (omega (arith, wx.sound.whole)))
+      ∙ ap length h.parts.points ∙ section_length y points_at ((counts_of y).p * 24) (omega (arith, wy.sound.whole)) in
       omega arith
 
   goals_eq : (counts_of x).g ≡ (counts_of y).g
   goals_eq =
       let e : size (counts_of x) ≡ size (counts_of y) =
-      sym (section_length (distances_at (counts_of x)) (size (counts_of x)) x (omega (arith, wx.sound.whole)))
-      ∙ ap length h.parts.distances ∙ section_length (distances_at (counts_of y)) (size (counts_of y)) y (omega (arith, wy.sound.whole)) in
+      sym (section_length x (distances_at (counts_of x)) (size (counts_of x)) (omega (arith, wx.sound.whole)))
+      ∙ ap length h.parts.distances ∙ section_length y (distances_at (counts_of y)) (size (counts_of y)) (omega (arith, wy.sound.whole)) in
       let n : ℕ = (counts_of y).n in
       let f : (n + n) * 8 + (counts_of x).g * goal_width n ≡ (n + n) * 8 + (counts_of y).g * goal_width n = sym (ap (λ (n : ℕ). (n + n) * 8 + (counts_of x).g * goal_width n) h.parts.nodes) ∙ e in
       eq_of_mul-eq-mul_right (goal_width n) (omega arith) (counts_of x).g (counts_of y).g (omega arith)

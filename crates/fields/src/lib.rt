@@ -26,7 +26,7 @@ pub fn u64_at(s: &[u8], at: usize) -> u64
     u64::from_le_bytes(s[at..at + 8].try_into().unwrap())
 }
 
-// A u32 as an index or a count.
+// A u32 as an index or a count; a cast, since Rust has no `From` from u32 to usize.
 pub fn count_at(s: &[u8], at: usize) -> usize
     requires { at + 4 ≤ length s.now }
     ensures { (result ≡ u32_at s.now at) × (result < 2 ^ 32) }

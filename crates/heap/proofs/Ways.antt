@@ -31,9 +31,6 @@ pub record Up (key : ℕ → Float) (e m : ℕ) (o₀ : List ℕ) (hole : ℕ) (
   pub below : FrontBelow o i m
 
 module _ (key : ℕ → Float) (e m : ℕ) (o₀ : List ℕ) (hole : ℕ) where
-  pub up_start : FrontBelow o₀ hole m → Up key e m o₀ hole o₀ hole
-  up_start b = record { fuel = hole; enough = omega arith; within = omega arith; same = refl; len = refl; below = b }
-
   -- the parent moves down into the hole
   pub up_step : (o : List ℕ) (i : ℕ) → Up key e m o₀ hole o i → 0 < i
       → key (get_or o ((i - 1) / 2) 0) ≤ᶠ key e ≡ false

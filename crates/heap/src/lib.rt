@@ -1,14 +1,15 @@
-// Rust's BinaryHeap on a lent slice of entry numbers, with the entries' keys in another. A lower key is greater.
+// Rust's BinaryHeap on a lent slice of entry numbers, with the entries' keys in another, which is lent for each call, since keys are written between the calls. A lower key is greater.
 // A hole is a place whose content does not count: the entry e goes there, or further on.
+// Contracts of free functions speak of the front of a slice, `FrontBelow`: in the middle of a sift it is no heap yet, so it has no model. `Below` of `push` and `pop` is about the heap and the keys lent for a call, so it is no invariant of the heap.
 #![tactic(auto)]
 
-ghost use Rattle.std.specs.Prelude.{◌≡◌, [], ◌+◌, ◌<◌, ◌≤◌, length, get_or, take, slice_get, IfSome};
+ghost use Rattle.std.specs.Prelude.{◌≡◌, [], ◌+◌, ◌-◌, ◌<◌, ◌≤◌, length, get_or, take, slice_get, IfSome};
 ghost use Rattle.model.specs.Heap.{sift_up, child, sink, push, pop};
 ghost use Rattle.heap.specs.Keys.{key_in, Below, FrontBelow, HeapOf};
 
 use std::marker::Model;
 
-// The heap is the first `len` numbers of `order`; what stands behind them has no part.
+// The heap is the first `len` numbers of `order`; what stands behind them has no part. A slice with a length, since it is lent: there is no heap memory.
 #[derive(Drop)]
 pub struct Heap<'a> {
     order: &'a mut [usize],
@@ -30,6 +31,7 @@ fn sift_up(order: &mut [usize], key: &[f64], e: usize, hole: usize)
     ensures { order.new ≡ sift_up hole (key_in key.now) e order.old hole }
 {
     let mut i = hole;
+    // `while`, since no index is counted: the place is halved.
     while 0 < i {
         let parent = (i - 1) / 2;
         let p = order[parent];
@@ -65,6 +67,7 @@ fn sift_down_to_bottom(order: &mut [usize], key: &[f64], e: usize, end: usize)
 {
     let mut i = 0;
     let mut left = 1;
+    // `while`, since no index is counted: the place is doubled.
     while left + 1 < end {
         let c = greater_child(order, key, left);
         order[i] = order[c];
@@ -76,6 +79,28 @@ fn sift_down_to_bottom(order: &mut [usize], key: &[f64], e: usize, end: usize)
         i = left;
     }
     sift_up(order, key, e, i);
+}
+
+// One entry more: e goes into the heap of the first `len` numbers. What was public stays public, so a slice with a count can still be pushed to and popped from.
+pub fn push(order: &mut [usize], key: &[f64], len: usize, e: usize)
+    requires len_in_bounds { (len < length order.old) × (e < length key.now) }
+    requires below { FrontBelow order.old len (length key.now) }
+    ensures { take (len + 1) order.new ≡ push (key_in key.now) (take len order.old) e }
+{
+    sift_up(order, key, e, len);
+}
+
+// Takes the greatest entry, which stands first, out of the heap of the first `len` numbers: the last one goes to the root and sinks.
+pub fn pop(order: &mut [usize], key: &[f64], len: usize) -> usize
+    requires len_nonzero { (0 < len) × (len ≤ length order.old) }
+    requires below { FrontBelow order.old len (length key.now) }
+    ensures { (result ≡ get_or order.old 0 0) × (take (len - 1) order.new ≡ pop (key_in key.now) (take len order.old)) }
+{
+    let top = order[0];
+    let end = len - 1;
+    let last = order[end];
+    sift_down_to_bottom(order, key, last, end);
+    top
 }
 
 impl<'a> Heap<'a> {
@@ -99,11 +124,11 @@ impl<'a> Heap<'a> {
         requires below { Below self.old.items (length key.now) × (e < length key.now) }
         ensures { self.new ≡ record self.old { items = push (key_in key.now) self.old.items e } }
     {
-        sift_up(self.order, key, e, self.len);
+        push(self.order, key, self.len, e);
         self.len += 1;
     }
 
-    // Takes the greatest entry, which stands first, out of the heap: the last one goes to the root and sinks.
+    // Takes the greatest entry, which stands first, out of the heap.
     pub fn pop(&mut self, key: &[f64]) -> Option<usize>
         requires { Below self.old.items (length key.now) }
         ensures top { result ≡ slice_get self.old.items 0 }
@@ -113,11 +138,8 @@ impl<'a> Heap<'a> {
         if self.len == 0 {
             return None;
         }
-        let top = self.order[0];
-        let end = self.len - 1;
-        let last = self.order[end];
-        sift_down_to_bottom(self.order, key, last, end);
-        self.len = end;
+        let top = pop(self.order, key, self.len);
+        self.len -= 1;
         Some(top)
     }
 }

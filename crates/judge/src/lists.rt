@@ -6,7 +6,7 @@ ghost use Rattle.model.specs.Judge.{start_rises, in_part, entry_good, lists_good
 use model::MOST_ROADS;
 use sheet::SoundSheet;
 
-// The start positions never fall, with no branch on any of them.
+// The start positions never fall: one mark for all, without a branch, for the judge's bar of speed (docs/PERFORMANCE.md).
 #[tactic(auto, using(crate::proofs::Tests::every_none, crate::proofs::Tests::every_more))]
 fn starts_rise(sheet: &SoundSheet<'_>) -> bool
     ensures { result ≡ every (start_rises sheet.now.bytes.now sheet.now.counts) sheet.now.counts.n 0 }
@@ -23,10 +23,10 @@ fn in_part(sheet: &SoundSheet<'_>, i: usize, j: usize) -> bool
     requires { i < sheet.now.counts.n }
     ensures { result ≡ in_part sheet.now.bytes.now sheet.now.counts i j }
 {
-    sheet.start(i) <= j && j < sheet.start(i + 1)
+    (sheet.start(i)..sheet.start(i + 1)).contains(&j)
 }
 
-// Each road stands in its source's part, once: a mark for each road that was met.
+// Each road stands in its source's part, once: a mark for each road that was met, in an array, since there is no heap.
 fn entries_once<const N: usize>(sheet: &SoundSheet<'_>) -> bool
     requires { sheet.now.counts.e ≤ N }
     ensures { result ≡ every (entry_good sheet.now.bytes.now sheet.now.counts) sheet.now.counts.e 0 }

@@ -51,9 +51,9 @@ fn fields_good(s: &[u8], layout: Layout) -> Result<(), usize>
     ensures { result ≡ fields_good s.now layout.counts }
 {
     let counts = layout.counts;
-    parts::header(s)?;
-    parts::settings(s)?;
-    parts::points(s, counts.p)?;
+    parts::header(s, 0, 1)?;
+    parts::settings(s, 56, 1)?;
+    parts::points(s, 168, counts.p)?;
     parts::roads(s, layout.roads(), counts.e, counts.n)?;
     parts::numbers(s, layout.numbers(), counts.e, counts.e)?;
     parts::rows(s, layout.rows(), counts.m, counts.e)?;

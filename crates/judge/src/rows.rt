@@ -9,18 +9,6 @@ ghost use Rattle.judge.specs.Rows.{Gives, goals_cover};
 use model::MOST_NODES;
 use sheet::SoundSheet;
 
-// The rows of all points.
-#[tactic(auto, using(model::proofs::RowSums::before_none, model::proofs::RowSums::before_next))]
-fn all_rows(sheet: &SoundSheet<'_>) -> usize
-    ensures { result ≡ rows_before sheet.now.bytes.now sheet.now.counts.p }
-{
-    let mut sum = 0;
-    for i in 0..sheet.counts.p {
-        sum += sheet.row_count(i);
-    }
-    sum
-}
-
 // The numbers at k places from `from` on rise.
 fn rise<F: Fn(usize) -> usize>(from: usize, k: usize, number: F) -> bool
     requires fits { from + k < 2 ^ 64 }
@@ -69,7 +57,7 @@ impl CountedSheet<'_> {
         rise(from, k, |row| self.sound.row_road(row))
     }
 
-    // They do so at each point.
+    // The roads of each point's rows rise.
     #[tactic(auto, using(model::proofs::RowSums::before_none, model::proofs::RowSums::before_next, model::proofs::RowSums::before_le))]
     fn points_rise(&self) -> bool
         ensures { result ≡ every (point_rises self.now.sound.bytes.now self.now.sound.counts) self.now.sound.counts.p 0 }
@@ -99,7 +87,7 @@ impl CountedSheet<'_> {
         true
     }
 
-    // That source has a goal row; N marks are enough.
+    // The source of the road of each row after the first point's has a goal row. N marks are enough, in an array, since there is no heap.
     fn goals_cover_with<const N: usize>(&self) -> bool
         requires { (0 < self.now.sound.counts.p) × (self.now.sound.counts.n ≤ N) × (N ≤ most_nodes) }
         ensures { result ≡ goals_cover self.now.sound.bytes.now self.now.sound.counts }
@@ -130,7 +118,7 @@ impl CountedSheet<'_> {
 pub(crate) fn rows_good(sheet: &SoundSheet<'_>) -> bool
     ensures { result ≡ rows_good sheet.now.bytes.now sheet.now.counts }
 {
-    if all_rows(sheet) != sheet.counts.m {
+    if sheet.rows_before(sheet.counts.p) != sheet.counts.m {
         return false;
     }
     let counted = CountedSheet { sound: *sheet };

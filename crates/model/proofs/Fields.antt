@@ -132,14 +132,6 @@ module _ (s : List ℕ) (c : Counts) (ok : Sound s c) where
       let there : place ≡ settings_at + k * 8 = omega arith in
       rw there at (leb-true (u64_at s place) most_f64 (rw (alike_at (f64 measured) 8 0 13 _ k h) at (settings_field k)))
 
-  pub snap_most : u8_at s (settings_at + 105) ≤ 1
-  unfolding settings_table fields_alike
-  snap_most = leb-true _ _ (settings_field 13)
-
-  pub candidates_most : u16_at s (settings_at + 106) ≤ most_measured
-  unfolding settings_table fields_alike
-  candidates_most = leb-true _ _ (settings_field 14)
-
   -- a point
   pub dnp_most : (i : ℕ) → i < c.p → u64_at s (points_at + i * 24) ≤ most_f64
   unfolding point_table
@@ -176,10 +168,6 @@ module _ (s : List ℕ) (c : Counts) (ok : Sound s c) where
   pub class_most : (r : ℕ) → r < c.e → (u8_at s (roads_at c + r * 32 + 24) ≤ 7) × (u8_at s (roads_at c + r * 32 + 25) ≤ 7)
   unfolding road_table
   class_most r h = (leb-true _ _ (road_field r h 3), leb-true _ _ (road_field r h 4))
-
-  pub access_most : (r : ℕ) → r < c.e → u8_at s (roads_at c + r * 32 + 26) ≤ 1
-  unfolding road_table
-  access_most r h = leb-true _ _ (road_field r h 5)
 
   -- a road number of the lists
   pub entry_below : (j : ℕ) → j < c.e → entry_of s c j < c.e

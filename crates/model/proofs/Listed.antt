@@ -49,10 +49,6 @@ module _ (s : List ℕ) (c : Counts) (ok : Sound s c) (good : lists_good s c ≡
       let there : i + (k - i) ≡ k = omega arith in
       rw there at (start_add i (k - i) (omega arith))
 
-  pub start_first : start_of s c 0 ≡ 0
-  unfolding lists_good
-  start_first = eqb-true _ _ (all_of_at _ good 0)
-
   pub start_last : start_of s c c.n ≡ c.e
   unfolding lists_good
   start_last = eqb-true _ _ (all_of_at _ good 1)

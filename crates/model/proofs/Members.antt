@@ -11,7 +11,7 @@ use native.Mathlib.Omega.{arith}
 use lib.Dec.{T}
 use lib.ListN.{length, get_or, set, take, drop, replicate, length-append, length-replicate}
 use lib.Seq.{take-suc, drop-append-le, length-take-le}
-use lib.Ieee.Fits.{and_l, and_r, and_i}
+use lib.Ieee.Fits.{and_l, and_r}
 use Rattle.model.specs.Lists.{In, cons_if, cons_some, filter, any, all, find, head, last, init, insert, sort, tabulate, pad, filter_map, fold}
 
 pub or_l : (a b : Bool) → T a → T (a || b)
@@ -41,17 +41,6 @@ module _ {A : Type 0} where
   any_of p {x} (Memᴰ.head {x = y} {xs} e) t = or_l (p y) (any p xs) (subst (λ (z : A). T (p z)) e t)
   any_of p (Memᴰ.tail {x = y} {xs} m) t = or_r (p y) (any p xs) (any_of p m t)
 
-  pub all_of_members : (p : A → Bool) (xs : List A) → ((x : A) → In x xs → T (p x)) → T (all p xs)
-  unfolding all
-  all_of_members p [] h = tt
-  all_of_members p (x ∷ xs) h = and_i (p x) (all p xs) (h x here) (all_of_members p xs (λ y m. h y (Memᴰ.tail m)))
-
-  pub in_front : {x : A} (xs : List A) → In x (init xs) → In x xs
-  unfolding init
-  in_front [] m = m
-  in_front (y ∷ []) m = Memᴰ.tail m
-  in_front {x} (y ∷ z ∷ zs) m = elim (Memᴰ.cases_cons m) [ inl e ↦ Memᴰ.head e | inr k ↦ Memᴰ.tail (in_front (z ∷ zs) k) ]
-
   pub in_getD : (xs : List A) (i : ℕ) (d : A) → i < length xs → In (get_or xs i d) xs
   in_getD [] i d h = absurd (not-suc-le-zero h)
   in_getD (x ∷ xs) zero d h = here
@@ -61,11 +50,6 @@ module _ {A : Type 0} where
   in_take zero xs m = absurd (Memᴰ.not-nil m)
   in_take (suc n) [] m = m
   in_take (suc n) (y ∷ ys) m = elim (Memᴰ.cases_cons m) [ inl e ↦ Memᴰ.head e | inr k ↦ Memᴰ.tail (in_take n ys k) ]
-
-  pub in_drop : {x : A} (n : ℕ) (xs : List A) → In x (drop n xs) → In x xs
-  in_drop zero xs m = m
-  in_drop (suc n) [] m = m
-  in_drop (suc n) (y ∷ ys) m = Memᴰ.tail (in_drop n ys m)
 
   pub in_last : (xs : List A) (x : A) → last xs ≡ some x → In x xs
   unfolding last

@@ -29,7 +29,7 @@ pub enum DecodeError {
 }
 
 impl DecodeError {
-    // The refusal's number.
+    // The refusal's number. A match, since no cast takes an enum whose variants have fields.
     pub fn number(self) -> usize
         ensures { result ≡ number_of self }
     {
@@ -48,7 +48,7 @@ impl DecodeError {
         }
     }
 
-    // Its places A and B, 0 where there is none.
+    // Its places A and B, 0 where there is none: the form of the table, which the C interface hands on.
     pub fn places(self) -> (usize, usize)
         ensures { (result.0 ≡ place_a self) × (result.1 ≡ place_b self) }
     {

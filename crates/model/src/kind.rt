@@ -19,6 +19,7 @@ pub enum Kind {
 #[derive(Clone, Copy, PartialEq, Eq, Debug)]
 pub struct UnknownKind;
 
+// By hand both ways: Rust derives no conversion between an enum and its numbers.
 impl Kind {
     pub fn number(self) -> usize
         ensures { result ≡ kind_number self }

@@ -37,7 +37,7 @@ pub struct Settings {
     pub max_candidates: u16,
 }
 
-// A location reference point. `limit` is the LFRCNP, 255 where there is no path entry.
+// A location reference point. `limit` is the LFRCNP, or `NO_LIMIT` where there is no path entry.
 // No Option: 255 is the sheet's own byte, and no class is above it, so that a comparison with it needs no case.
 #[derive(Clone, Copy)]
 pub struct Point {
@@ -72,7 +72,7 @@ pub struct Road {
     pub access: bool,
 }
 
-// What binds the roads of a leg: the raised class limit, 255 for none, and the metres that a slip road or an access road costs beside its length.
+// What binds the roads of a leg: the raised class limit, `NO_LIMIT` for none as in `Point`, and the metres that a slip road or an access road costs beside its length.
 #[derive(Clone, Copy)]
 pub struct AStarConstraints {
     pub max_frc: u8,
@@ -90,13 +90,16 @@ pub struct Limits {
     pub constraints: AStarConstraints,
 }
 
-// A neighbour of a node, with the roads in from it and out to it.
+// A neighbour of a node, with the roads in from it and out to it: numbers, since the definition counts them.
 #[derive(Clone, Copy)]
 pub struct Neighbour {
     pub node: usize,
     pub ins: usize,
     pub outs: usize,
 }
+
+// The limit of a point that has no path entry.
+pub const NO_LIMIT: u8 = 255;
 
 // The greatest counts of a sheet: P, N, E, M, G, the rows of one point, and the most candidates.
 pub const MOST_POINTS: usize = 16;

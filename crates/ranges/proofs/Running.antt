@@ -29,15 +29,6 @@ module _ (s : List ℕ) (w : ℕ) (fs : List Field) where
       let first = rw here at (h 0 (omega arith)) in
       rw (← first, ◌then◌) (records_bad k (base + w) i a (omega arith) (λ j m. rw (next base j) at (h (suc j) (omega arith))) (rw (next base i) at e))
 
--- one record alone
-pub one_record : (s : List ℕ) (w : ℕ) (fs : List Field) (at : ℕ) → check s at fs ≡ records s w fs 1 at
-unfolding records ◌then◌
-one_record s w fs at = go (check s at fs)
-  where
-    go : (v : Verdict) → v ≡ (v then Ok tt)
-    go (Ok x) = refl
-    go (Err a) = refl
-
 -- ---- fields alike are records of one field each
 
 need_then : (b : Bool) (a : ℕ) (u v : Verdict) → u ≡ v → need b a u ≡ (need b a (Ok tt) then v)

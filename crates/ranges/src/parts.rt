@@ -1,7 +1,7 @@
-// The parts of a sheet: the first bad field of each.
+// The parts of a sheet: the first bad field of each. The parameters are those of the definition's `records`, so a struct of them would be no plainer.
 ghost use Rattle.std.specs.Prelude.{◌≡◌, ◌+◌, ◌*◌, ◌≤◌, ◌<◌, length, true, All};
 ghost use Rattle.std.specs.Int.{w32, from_le_bytes};
-ghost use Rattle.model.specs.Layout.{header_size, settings_at, points_at, goal_width, most_nodes};
+ghost use Rattle.model.specs.Layout.{goal_width, most_nodes};
 ghost use Rattle.model.specs.Table.{records};
 ghost use Rattle.model.specs.Judge.{header_table, settings_table, point_table, road_table, number_table, row_table, goal_table};
 
@@ -9,29 +9,28 @@ pub use crate::measures::distances;
 use crate::need::run;
 use crate::records;
 
-// The header's kind of reference.
-#[tactic(auto, using(crate::proofs::Running::one_record))]
-pub fn header(s: &[u8]) -> Result<(), usize>
-    requires { header_size ≤ length s.now }
-    ensures { result ≡ records s.now 4 header_table 1 0 }
+// k kinds of reference: the header's is one.
+pub fn header(s: &[u8], base: usize, k: usize) -> Result<(), usize>
+    requires { base + k * 4 ≤ length s.now }
+    ensures { result ≡ records s.now 4 header_table k base }
 {
-    records::kind(s, 0)
+    run(base, 4, k, |at| records::kind(s, at))
 }
 
-#[tactic(auto, using(crate::proofs::Running::one_record))]
-pub fn settings(s: &[u8]) -> Result<(), usize>
-    requires { settings_at + 112 ≤ length s.now }
-    ensures { result ≡ records s.now 112 settings_table 1 settings_at }
+// k settings: a sheet has one.
+pub fn settings(s: &[u8], base: usize, k: usize) -> Result<(), usize>
+    requires { base + k * 112 ≤ length s.now }
+    ensures { result ≡ records s.now 112 settings_table k base }
 {
-    records::settings(s, 56)
+    run(base, 112, k, |at| records::settings(s, at))
 }
 
-// The k location reference points.
-pub fn points(s: &[u8], k: usize) -> Result<(), usize>
-    requires { points_at + k * 24 ≤ length s.now }
-    ensures { result ≡ records s.now 24 point_table k points_at }
+// k location reference points.
+pub fn points(s: &[u8], base: usize, k: usize) -> Result<(), usize>
+    requires { base + k * 24 ≤ length s.now }
+    ensures { result ≡ records s.now 24 point_table k base }
 {
-    run(168, 24, k, |at| records::point(s, at))
+    run(base, 24, k, |at| records::point(s, at))
 }
 
 // k roads, on a sheet of n nodes.
@@ -59,7 +58,7 @@ pub fn goals(s: &[u8], base: usize, k: usize, n: usize) -> Result<(), usize>
     run(base, 8 + n * 8, k, |at| records::goal(s, at, n))
 }
 
-// Whether numbers are all below n, with no branch on any of them.
+// Whether numbers are all below n, with no branch on any of them; a cast, since Rust has no `From` from u32 to usize.
 fn all_below(words: &[[u8; 4]], n: usize) -> bool
     ensures { result ≡ true → All (λ w. from_le_bytes w32 w < n) words.now }
 {
@@ -67,7 +66,7 @@ fn all_below(words: &[[u8; 4]], n: usize) -> bool
     greatest.is_none_or(|most| (most as usize) < n)
 }
 
-// k numbers of roads, on a sheet of e roads: one by one only where one is bad.
+// k numbers of roads, on a sheet of e roads: one by one only where one is bad. One function with `distances` would be no plainer: width, test and table differ, the same is one `if`.
 pub fn numbers(s: &[u8], base: usize, k: usize, e: usize) -> Result<(), usize>
     requires { base + k * 4 ≤ length s.now }
     ensures { result ≡ records s.now 4 (number_table e) k base }

@@ -1,4 +1,5 @@
 // One record: its first bad field.
+// `s` and `at` stay two parameters: the place is what a refusal tells, and the definition's `check` takes both, so a struct of them would be no plainer.
 #![tactic(auto, unfolding(model::specs::Judge::header_table, model::specs::Judge::settings_table, model::specs::Judge::point_table, model::specs::Judge::road_table, model::specs::Judge::number_table, model::specs::Judge::row_table, model::specs::Judge::distance_table, model::specs::Judge::goal_table, model::specs::Table::check_then, model::specs::Table::fields_alike, model::specs::Table::need))]
 
 ghost use Rattle.std.specs.Prelude.{◌≡◌, ◌+◌, ◌≤◌, length};
@@ -42,12 +43,16 @@ pub(crate) fn point(s: &[u8], at: usize) -> Result<(), usize>
     ensures { result ≡ check s.now at point_table }
 {
     let limit = s[at + 12];
-    let most_dnp = if limit == 255 { 0 } else { fields::MOST };
+    let most_dnp = if limit == model::NO_LIMIT {
+        0
+    } else {
+        fields::MOST
+    };
     need(fields::u64_at(s, at) <= most_dnp, at)?;
     need(fields::u16_at(s, at + 8) <= 360, at + 8)?;
     need(s[at + 10] <= 7, at + 10)?;
     need(s[at + 11] <= 7, at + 11)?;
-    need(limit <= 7 || limit == 255, at + 12)?;
+    need(limit <= 7 || limit == model::NO_LIMIT, at + 12)?;
     spare(s, at, 13, 3)?;
     need(fields::u32_at(s, at + 16) <= model::MOST_MEASURED, at + 16)?;
     spare(s, at, 20, 4)
@@ -68,7 +73,7 @@ fn road_fields(s: &[u8], at: usize, n: usize) -> Result<(), usize>
     spare(s, at, 27, 5)
 }
 
-// A road, on a sheet of n nodes: its fields one by one only where one is bad. The access flag and the spare bytes are the upper part of one u64.
+// A road, on a sheet of n nodes: as a whole first, its fields one by one only where one is bad, since by fields alone the judge misses the bar of speed. The access flag and the spare bytes are the upper part of one u64.
 #[tactic(auto, using(crate::proofs::Whole::road_whole))]
 pub(crate) fn road(s: &[u8], at: usize, n: usize) -> Result<(), usize>
     requires { at + 32 ≤ length s.now }
@@ -80,8 +85,13 @@ pub(crate) fn road(s: &[u8], at: usize, n: usize) -> Result<(), usize>
     let rest = fields::u64_at(s, at + 24);
     let frc = s[at + 24];
     let fow = s[at + 25];
-    let beyond_flag = 0x2_0000 <= rest;
-    if metres <= fields::MOST && source < n && target < n && !beyond_flag && frc <= 7 && fow <= 7 {
+    if metres <= fields::MOST
+        && source < n
+        && target < n
+        && rest < 0x2_0000
+        && frc <= 7
+        && fow <= 7
+    {
         return Ok(());
     }
     road_fields(s, at, n)
@@ -117,7 +127,7 @@ fn row_fields(s: &[u8], at: usize, e: usize) -> Result<(), usize>
     need(fields::u64_at(s, at + 32) <= fields::MOST, at + 32)
 }
 
-// A measured row, on a sheet of e roads: its fields one by one only where one is bad.
+// A measured row, on a sheet of e roads: as a whole first, as a road is, for the judge's bar of speed.
 #[tactic(auto, using(crate::proofs::Whole::row_whole))]
 pub(crate) fn row(s: &[u8], at: usize, e: usize) -> Result<(), usize>
     requires { at + 40 ≤ length s.now }

@@ -23,7 +23,8 @@ enum Side {
     Out,
 }
 
-// Whether a node is valid, and how many roads the test read.
+// Whether a node is valid, and how many roads the test read: both are told of every node.
+// The number is told beside the flag, since a promise needs it: `roads_read`.
 #[derive(Clone, Copy)]
 pub struct Tested {
     pub valid: bool,

@@ -12,6 +12,7 @@ pub fn bearing_difference(a: f64, b: f64) -> f64
 }
 
 // along / length held to 0 to 1, and 0 for length 0. S7: along 120 of 100 gives 1, of 0 gives 0.
+// One function for this, `normalize` and `part_of` would be no plainer: each is a definition of its own, one line long, and this one is held to 0 to 1.
 #[tactic(auto, unfolding(model::specs::Candidates::fraction))]
 pub fn fraction(along: f64, length: f64) -> f64
     ensures { result ≡ fraction along length }

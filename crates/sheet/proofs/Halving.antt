@@ -15,9 +15,6 @@ pub record Within (f : ℕ → ℕ) (g v low left : ℕ) : Type 0 where
   pub over : (k : ℕ) → low + left ≤ k → k < g → v < f k
 
 module _ (f : ℕ → ℕ) (g v : ℕ) where
-  pub within_all : Within f g v 0 g
-  within_all = record { fits = omega arith; under = λ k h. absurd (omega arith); over = λ k h l. absurd (omega arith) }
-
   -- v stands nowhere where no place is left
   pub within_none : (low left : ℕ) → left ≤ 0 → Within f g v low left → (k : ℕ) → k < g → f k ≡ v → ⊥
   within_none low left z w k h e =

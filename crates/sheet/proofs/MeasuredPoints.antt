@@ -5,15 +5,12 @@ use mathlib.Core.List.{List}
 use native.Mathlib.Omega.{arith}
 use lib.ListN.{get_or}
 use Rattle.model.specs.declared.Counts.{Counts}
-use Rattle.model.specs.declared.Row.{Row}
 use Rattle.model.specs.Lists.{tabulate}
 use Rattle.model.specs.Bytes.{u8_at, u16_at, f64_at}
 use Rattle.model.specs.Layout.{points_at, points_bytes, rows_bytes}
-use Rattle.model.specs.Judge.{WellFormed, row_count, rows_before}
+use Rattle.model.specs.Judge.{row_count, rows_before}
 use Rattle.model.specs.Sheet.{MeasuredPoint, point_of, row_of, measured_point, sheet_of}
-use Rattle.model.proofs.Members.{getD_tab}
 use Rattle.model.proofs.Sections.{u8_section, u16_section, f64_section}
-use Rattle.model.proofs.RowSums.{rows_within}
 use Rattle.model.proofs.Parsed.{measured_point_is, rows_are}
 
 -- point i, from the whole sheet
@@ -38,11 +35,3 @@ module _ (s : List ℕ) (c : Counts) (i : ℕ) (h : i < c.p) (none : MeasuredPoi
   -- as many rows as its count, from the first after the rows of the points before
   pub measured_rows : (get_or (sheet_of s c).points i none).rows ≡ tabulate (row_count s i) (rows_before s i) (row_of (rows_bytes s c))
   measured_rows = ap (λ (x : MeasuredPoint). x.rows) (measured_point_is s c i h none) ∙ rows_are s c i h
-
-  -- the j-th of them
-  pub measured_row : (j : ℕ) → j < row_count s i → (d : Row) → get_or (get_or (sheet_of s c).points i none).rows j d ≡ row_of (rows_bytes s c) (rows_before s i + j)
-  measured_row j hj d = ap (λ (rows : List Row). get_or rows j d) measured_rows ∙ getD_tab (row_count s i) (rows_before s i) (row_of (rows_bytes s c)) j d hj
-
-  -- is a row of the sheet
-  pub measured_row_below : WellFormed s c → (j : ℕ) → j < row_count s i → rows_before s i + j < c.m
-  measured_row_below ok j hj = omega (arith, rows_within s c ok.rows i h)

@@ -44,6 +44,7 @@ impl Sheet<'_> {
     {
         let mut low = 0;
         let mut left = self.counts.g;
+        // `while`, since no index is counted: what is left is halved.
         while 0 < left {
             let half = left / 2;
             let middle = low + half;

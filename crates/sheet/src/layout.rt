@@ -6,6 +6,7 @@ ghost use Rattle.model.specs.Layout as layout;
 use model::Counts;
 
 // The counts of a sheet that refusal 2 lets pass.
+// `Layout { counts }` is written out at each use: a method for it would be no plainer, since what a literal holds is known without a clause.
 #[derive(Clone, Copy)]
 pub struct Layout {
     pub counts: Counts,

@@ -1,15 +1,15 @@
 // The numbers of a sheet that refusals 1 to 4 let pass: what refusal 5 compares, and what the graph is made of.
-// A method for each, since its contract names the number; a common reader by offset would be no shorter.
+// A method for each: it is one load, and its clause names its own number of the definition, so a common reader by offset would be no plainer.
 ghost use Rattle.std.specs.Prelude.{◌≡◌, ◌+◌, ◌*◌, ◌≤◌, ◌<◌, length};
 ghost use Rattle.model.specs.Bytes.{u32_at};
 ghost use Rattle.model.specs.Layout.{header_size, counts_of, roads_at, most_measured};
-ghost use Rattle.model.specs.Judge.{source_of, start_of, entry_of, row_count, row_road, goal_node};
+ghost use Rattle.model.specs.Judge.{source_of, start_of, entry_of, row_count, rows_before, row_road, goal_node};
 
 use crate::SoundSheet;
 use crate::layout::Layout;
 use model::Counts;
 
-// The counts of the header.
+// The counts of the header. Its length is asked for, since these bytes are no sheet yet.
 pub fn counts(s: &[u8]) -> Counts
     requires { header_size ≤ length s.now }
     ensures { result ≡ counts_of s.now }
@@ -68,7 +68,7 @@ impl SoundSheet<'_> {
     {
         let counts = self.counts;
         let at = Layout { counts }.numbers() + j * 4;
-        fields::count_at(self.bytes, at + 0)
+        fields::count_at(self.bytes, at)
     }
 
     // The row count of point i.
@@ -76,8 +76,21 @@ impl SoundSheet<'_> {
         requires { i < self.now.counts.p }
         ensures { (result ≡ row_count self.now.bytes.now i) × (result ≤ most_measured) }
     {
-        let at = 168 + i * 24;
-        fields::count_at(self.bytes, at + 16)
+        let at = 168 + i * 24 + 16;
+        fields::count_at(self.bytes, at)
+    }
+
+    // The rows of the points before point i; for i = P, of all points.
+    #[tactic(auto, using(model::proofs::RowSums::before_none, model::proofs::RowSums::before_next))]
+    pub fn rows_before(&self, i: usize) -> usize
+        requires { i ≤ self.now.counts.p }
+        ensures { result ≡ rows_before self.now.bytes.now i }
+    {
+        let mut sum = 0;
+        for k in 0..i {
+            sum += self.row_count(k);
+        }
+        sum
     }
 
     // The road of row k.
@@ -87,7 +100,7 @@ impl SoundSheet<'_> {
     {
         let counts = self.counts;
         let at = Layout { counts }.rows() + k * 40;
-        fields::count_at(self.bytes, at + 0)
+        fields::count_at(self.bytes, at)
     }
 
     // The node of goal row k.
@@ -100,6 +113,6 @@ impl SoundSheet<'_> {
         let width = layout.goal_width();
         let before = k * width;
         let at = layout.goals() + before;
-        fields::count_at(self.bytes, at + 0)
+        fields::count_at(self.bytes, at)
     }
 }

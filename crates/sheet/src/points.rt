@@ -1,4 +1,5 @@
 // The settings, the points and the measured rows of a well-formed sheet.
+// A method for each: a field is one load, and its clause names its own field of the definition, so a common reader would be no plainer.
 ghost use Rattle.std.specs.Prelude.{◌≡◌, ◌+◌, ◌*◌, ◌≤◌, ◌<◌};
 ghost use Rattle.model.specs.Bytes.{f64_at};
 ghost use Rattle.model.specs.Layout.{most_measured, settings_bytes, points_bytes, rows_bytes};
@@ -88,15 +89,12 @@ impl Sheet<'_> {
     }
 
     // The first row of point i: as many rows as the points before it have.
+    #[tactic(auto, using(model::proofs::RowSums::rows_within))]
     pub fn first_row(&self, i: usize) -> usize
         requires { i < self.now.counts.p }
         ensures { (result ≡ rows_before self.now.bytes.now i) × (result + row_count self.now.bytes.now i ≤ self.now.counts.m) }
     {
-        let mut before = 0;
-        for k in 0..i {
-            before += self.row_count(k);
-        }
-        before
+        self.sound().rows_before(i)
     }
 
     // Row k.

@@ -1,4 +1,5 @@
 // The roads and the lists of a well-formed sheet, as the parsed sheet has them.
+// A method for each: it is one load or one call, and its clause names its own field of the definition, so a common reader would be no plainer.
 ghost use Rattle.std.specs.Prelude.{◌≡◌, ◌≤◌, ◌<◌};
 ghost use Rattle.model.specs.Judge.{start_of, entry_of};
 ghost use Rattle.model.specs.Sheet.{road_at};

@@ -1,9 +1,5 @@
-use Rattle.std.proofs.Common.{◌∙◌}
 use Rattle.fields.proofs.Chunks.{word_count, word_at}
 use Rattle.fields.proofs.words.Goals as goal
-
-pub returns-clause-count : goal.returns-clause-count
-returns-clause-count g c = let a = c.args in c.as_chunks.ensures.front_len ∙ word_count a.s.now g.row.N a.at a.k c.requires.some c.requires.within
 
 pub returns-clause-each : goal.returns-clause-each
 returns-clause-each g c = λ i l.

@@ -1,9 +1,6 @@
-use Rattle.heap.proofs.Ways.{up_start, up_step, up_root, up_stop}
+use Rattle.heap.proofs.Ways.{up_step, up_root, up_stop}
 use Rattle.heap.proofs.sift_up.Goals as goal
 use Rattle.heap.proofs.sift_up.Goals.{else-loop-i-test, then-loop-i-test+then-stays}
-
-pub loop-i-init : goal.loop-i-init
-loop-i-init c = up_start _ _ _ _ _ c.requires.below
 
 pub loop-i-preserved : goal.loop-i-preserved
 loop-i-preserved c = up_step _ _ _ _ _ _ _ c.loop-i.invariant c.loop-i-test.true c.if-stays.false

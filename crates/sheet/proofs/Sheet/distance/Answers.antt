@@ -4,6 +4,3 @@ use Rattle.sheet.proofs.Sheet.distance.Goals as goal
 
 pub f64_at-requires : goal.f64_at-requires
 f64_at-requires c = (omega arith, rw c.distances.ensures (distance_most _ _ c.args.self.now.well_formed.sound _ c.requires))
-
-pub returns : goal.returns
-returns c = rw c.distances.ensures at c.f64_at.ensures

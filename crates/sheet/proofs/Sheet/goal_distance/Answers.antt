@@ -4,18 +4,6 @@ use Rattle.model.proofs.Fields.{goal_distance_most}
 use Rattle.sheet.proofs.GoalLaws.{goal_within, goal_distance_is}
 use Rattle.sheet.proofs.Sheet.goal_distance.Goals as goal
 
-pub overflow_mul-before : goal.overflow_mul-before
-overflow_mul-before c = rw c.goal_width-width.ensures (omega (arith, goal_within _ _ c.args.self.now.well_formed _ c.requires.0))
-
-pub overflow_add-at : goal.overflow_add-at
-overflow_add-at c = let pre = c.requires in rw (c.goal_width-width.ensures, c.goals.ensures) (omega (arith, goal_within _ _ c.args.self.now.well_formed _ c.requires.0))
-
-pub overflow_add-at-2 : goal.overflow_add-at-2
-overflow_add-at-2 c = let pre = c.requires in rw (c.goal_width-width.ensures, c.goals.ensures) (omega (arith, goal_within _ _ c.args.self.now.well_formed _ c.requires.0))
-
-pub overflow_add-at-3 : goal.overflow_add-at-3
-overflow_add-at-3 c = let pre = c.requires in rw (c.goal_width-width.ensures, c.goals.ensures) (omega (arith, goal_within _ _ c.args.self.now.well_formed _ c.requires.0))
-
 pub f64_at-requires : goal.f64_at-requires
 f64_at-requires c =
     let pre = c.requires in

@@ -4,15 +4,6 @@ use Rattle.model.specs.Sheet.{settings_of, sheet_of}
 use Rattle.model.proofs.Sections.{u8_section, u16_section}
 use Rattle.sheet.proofs.Sheet.settings.Goals as goal
 
-pub bounds-self-160 : goal.bounds-self-160
-bounds-self-160 c = omega (arith, c.args.self.now.well_formed.sound.whole)
-
-pub bounds-self-161 : goal.bounds-self-161
-bounds-self-161 c = omega (arith, c.args.self.now.well_formed.sound.whole)
-
-pub u16_at-max_candidates-requires : goal.u16_at-max_candidates-requires
-u16_at-max_candidates-requires c = omega (arith, c.args.self.now.well_formed.sound.whole)
-
 pub returns : goal.returns
 unfolding settings_of sheet_of
 returns c =
