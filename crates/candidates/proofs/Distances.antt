@@ -3,7 +3,7 @@ use Prim.Native.Nat.{ℕ, ◌≤◌, ◌<◌, min}
 use mathlib.Core.Path.{◌≡◌, refl, sym, ap, ◌∙◌}
 use mathlib.Core.Bool.{Bool, true, false, cond}
 use mathlib.Core.List.Memᴰ
-use mathlib.Core.List.{List, [], ◌∷◌, map}
+use mathlib.Core.List.{List, [], ◌∷◌, ◌++◌, map}
 use native.Mathlib.Omega.{arith}
 use lib.Dec.{T}
 use lib.ListN.{length}
@@ -20,7 +20,13 @@ use Rattle.bounds.proofs.Rank.{rank, Number, number, to_number, lt_rank}
 use Rattle.bounds.proofs.AmountLaws.{finite_amount}
 use Rattle.candidates.specs.declared.candidate.Candidate as code
 use Rattle.candidates.specs.Found.{kept_at, passing_at, candidates_at, by_number}
-use Rattle.candidates.specs.Nearest.{EqualAmounts, least_of}
+use Rattle.candidates.specs.Nearest.{EqualAmounts, least_of, seen_of}
+use Rattle.std.specs.Prelude.{Option}
+use Rattle.std.specs.Iterator.{Drains}
+use Rattle.std.proofs.lemmas.Iterator.{YieldsList, items_from_drains}
+use Rattle.std.proofs.lemmas.List.{map-id}
+use Rattle.candidates.specs.declared.closest.Seen.{Seen}
+use Rattle.candidates.proofs.Folds.{fold_append}
 use Rattle.candidates.proofs.Inserting.{length_sort}
 use Rattle.candidates.proofs.Ranked.{eq_is, below_rank, not_below_rank}
 use Rattle.candidates.proofs.Listed.{candidates_cut}
@@ -115,14 +121,36 @@ nearest_sorted xs ps =
     let qs : Every Distant (sort better xs) = λ x m. ps x (in_sort better xs m) in
     alike _ _ (nearest_amount xs ps) (nearest_amount (sort better xs) qs) (nearest_rank xs ps ∙ sym (nearest_rank (sort better xs) qs ∙ least_sort (rank infinity) [] xs))
 
--- ---- in the code's loops
-
-abbrev pub nearer_of : Float → code.Candidate → Float
-nearer_of d x = fmin d x.distance_m
+-- ---- in the code's loop
 
 pub infinity_is : of_bits binary64 0x7ff0_0000_0000_0000 ≡ infinity
 unfolding of_bits
 infinity_is = refl
+
+pub least_none : of_bits binary64 0x7ff0_0000_0000_0000 ≡ least_of []
+unfolding least_of fold
+least_none = infinity_is
+
+-- one candidate more
+module _ (xs : List code.Candidate) (x : code.Candidate) (least : Float) (so_far : least ≡ least_of xs) where
+  least_more : least_of (xs ++ (x ∷ [])) ≡ fmin least x.distance_m
+  unfolding least_of fold
+  least_more = fold_append (λ d (y : code.Candidate). fmin d y.distance_m) infinity xs (x ∷ []) ∙ ap (λ d. fmin d x.distance_m) (sym so_far)
+
+  pub least_nearer : lt x.distance_m least ≡ true → x.distance_m ≡ least_of (xs ++ (x ∷ []))
+  unfolding fmin
+  least_nearer e = sym (least_more ∙ rw e)
+
+  pub least_stays : lt x.distance_m least ≡ false → least ≡ least_of (xs ++ (x ∷ []))
+  unfolding fmin
+  least_stays e = sym (least_more ∙ rw e)
+
+-- what is seen of an iterator is what is seen of its list
+pub seen_drained : {S : Type 0} {steps : S → Option code.Candidate → S → Type 0} {s : S} {rows : List code.Candidate} (r : Seen) → ((xs : List code.Candidate) × Drains steps s xs × (r ≡ seen_of xs)) → YieldsList steps (λ x. x) s rows → r ≡ seen_of rows
+seen_drained r d is =
+    let drains = d.1 in
+    let same = items_from_drains d.0 (drains.1.0, drains.1.1, λ _. (drains.0, drains.1.2)) is in
+    d.2 ∙ ap seen_of (sym (map-id d.0) ∙ same)
 
 -- ---- a point's candidates
 

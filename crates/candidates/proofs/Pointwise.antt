@@ -14,7 +14,6 @@ use lib.ListN.{length}
 use lib.Ieee.{Float, lt, le}
 use lib.Seq.{take_all}
 use Rattle.model.specs.declared.Counts.{Counts}
-use Rattle.model.specs.declared.Settings.{Settings}
 use Rattle.model.specs.Numbers.{infinity}
 use Rattle.model.specs.Lists.{maybe, tabulate}
 use Rattle.model.specs.Judge.{WellFormed}
@@ -23,7 +22,8 @@ use Rattle.model.specs.Candidates.{Candidate, nearest, Closest, closest, closest
 use Rattle.model.specs.Decode.{first_empty}
 use Rattle.model.proofs.Members.{here, in_tab, length_tab, Every}
 use Rattle.sheet.proofs.Parts.{map_tab}
-use Rattle.bounds.specs.Amounts.{Amount, Finite}
+use Rattle.bounds.specs.Amounts.{Amount}
+use Rattle.bounds.proofs.AmountLaws.{finite_amount}
 use Rattle.bounds.proofs.Rank.{rank, le_rank, rank_le, nle_rank}
 use Rattle.candidates.specs.Found.{candidates_at}
 use Rattle.candidates.specs.Points.{candidates_of, no_candidate_of, close_enough, judge_points, points_of}
@@ -31,6 +31,7 @@ use Rattle.candidates.specs.Nearest.{EqualAmounts}
 use Rattle.candidates.proofs.Ranked.{lt_is, below_rank, not_below_rank}
 use Rattle.candidates.proofs.Kept.{kept_distant}
 use Rattle.candidates.proofs.Distances.{alike, alike_rank, infinity_amount, finite_below, away_amount}
+use Rattle.candidates.proofs.SheetFacts.{most_finite}
 use Rattle.candidates.proofs.Rules.{candidates_are}
 
 front_of : {A : Type 0} (f : ℕ → A) (n i : ℕ) → i < n → tabulate (n - i) i f ≡ f i ∷ tabulate (n - (i + 1)) (i + 1) f
@@ -76,7 +77,13 @@ closest_low i best (d ∷ ds) p ps =
     let w = closest_low (suc i) (closer i best d) ds one.0 (λ z m. ps z (Memᴰ.tail m)) in
     (w.0, omega (arith, one.1, w.1))
 
-module _ (s : List ℕ) (c : Counts) (most : Float) where
+module _ (s : List ℕ) (c : Counts) where
+  abbrev most : Float
+  most = (sheet_of s c).settings.max_candidate_distance_m
+
+  most_amount : WellFormed s c → Amount most
+  most_amount ok = finite_amount most (most_finite s c ok)
+
   abbrev away_of : ℕ → Float
   away_of i = nearest (candidates_at (sheet_of s c) i)
 
@@ -91,18 +98,18 @@ module _ (s : List ℕ) (c : Counts) (most : Float) where
     pub far : rank most < rank best.distance
     pub rest : closest i best (tabulate (c.p - i) i (λ j. nearest (candidates_at (sheet_of s c) j))) ≡ closest_point (candidates_of (sheet_of s c))
 
-  pub begun : Finite most → SoFar 0 0 infinity
+  pub begun : WellFormed s c → SoFar 0 0 infinity
   unfolding closest_point
-  begun f = record {
+  begun ok = record {
     best = record { point = 0; distance = infinity };
     point = refl;
     same = alike infinity infinity infinity_amount infinity_amount refl;
-    far = finite_below most f;
+    far = finite_below most (most_finite s c ok);
     rest = let z : c.p - 0 ≡ c.p = omega arith in rw (z, distances_are);
   }
 
-  module _ (i at : ℕ) (least : Float) (so : SoFar i at least) (most_amount : Amount most) where
-    module _ (ok : WellFormed s c) (h : i < c.p) (d : Float) (same : EqualAmounts d (nearest (candidates_at (sheet_of s c) i))) where
+  module _ (i at : ℕ) (least : Float) (so : SoFar i at least) (ok : WellFormed s c) where
+    module _ (h : i < c.p) (d : Float) (same : EqualAmounts d (nearest (candidates_at (sheet_of s c) i))) where
       later : Every Amount (tabulate (c.p - (i + 1)) (i + 1) away_of)
       later x m =
           let w = in_tab (c.p - (i + 1)) (i + 1) away_of m in
@@ -119,9 +126,9 @@ module _ (s : List ℕ) (c : Counts) (most : Float) where
       unfolding close_enough
       near t =
           let all = closest_low (i + 1) (closer i so.best (away_of i)) (tabulate (c.p - (i + 1)) (i + 1) away_of) low.0 later in
-          let r : rank d ≤ rank most = le_rank d most same.left most_amount (subst T (sym t) tt) in
+          let r : rank d ≤ rank most = le_rank d most same.left (most_amount ok) (subst T (sym t) tt) in
           let e : le (closest_point (candidates_of (sheet_of s c))).distance most ≡ true =
-          ap (λ (b : Closest). le b.distance most) (sym onward) ∙ below _ most all.0 most_amount (omega (arith, all.1, low.2, alike_rank same)) in
+          ap (λ (b : Closest). le b.distance most) (sym onward) ∙ below _ most all.0 (most_amount ok) (omega (arith, all.1, low.2, alike_rank same)) in
           sym (rw e)
 
       test : lt d least ≡ lt (away_of i) so.best.distance
@@ -129,7 +136,7 @@ module _ (s : List ℕ) (c : Counts) (most : Float) where
 
       module _ (far : le d most ≡ false) where
         beyond : rank most < rank (away_of i)
-        beyond = rw (alike_rank same) at (nle_rank d most same.left most_amount (subst (λ (b : Bool). T (not b)) (sym far) tt))
+        beyond = rw (alike_rank same) at (nle_rank d most same.left (most_amount ok) (subst (λ (b : Bool). T (not b)) (sym far) tt))
 
         pub passed_closer : lt d least ≡ true → SoFar (i + 1) i d
         passed_closer t =
@@ -145,7 +152,7 @@ module _ (s : List ℕ) (c : Counts) (most : Float) where
     unfolding close_enough closest
     too_far h =
         let is : closest_point (candidates_of (sheet_of s c)) ≡ so.best = sym so.rest ∙ ap (closest i so.best) (past away_of c.p i h) in
-        let e = above so.best.distance most so.same.right most_amount so.far in
+        let e = above so.best.distance most so.same.right (most_amount ok) so.far in
         ap no_candidate_of so.point ∙ sym (rw (is, e))
 
 -- ---- whether each has one
@@ -185,8 +192,8 @@ module _ (s : List ℕ) (c : Counts) where
           go [] g = absurd (omega arith)
           go (y ∷ ys) g = refl
 
-    pub all_filled : c.p ≤ i → 0 < c.p → (set : Settings) → set ≡ (sheet_of s c).settings → close_enough set.max_candidate_distance_m (candidates_of (sheet_of s c)) ≡ points_of (sheet_of s c)
+    pub all_filled : c.p ≤ i → 0 < c.p → close_enough (sheet_of s c).settings.max_candidate_distance_m (candidates_of (sheet_of s c)) ≡ points_of (sheet_of s c)
     unfolding first_empty maybe
-    all_filled h g set es =
+    all_filled h g =
         let e : first_empty 0 (candidates_of (sheet_of s c)) ≡ none = sym so.rest ∙ ap (first_empty i) (past (candidates_at (sheet_of s c)) c.p i h) in
-        rw es (sym (judged g ∙ rw e))
+        sym (judged g ∙ rw e)

@@ -9,7 +9,8 @@ use crate::candidate::Candidate;
 use crate::passing::Passing;
 use std::marker::Model;
 
-// What stands in a place that is not used. A constant, so that zeros are stored in each place: the result of a call would be copied into it.
+// What stands in a place that is not used: an array made in place is copies of a constant.
+// No plainer by `Default`: zeros are no candidate, and each crate could take them for one.
 const NOTHING: Candidate = Candidate {
     edge_idx: 0,
     distance_m: 0.0,
@@ -20,7 +21,7 @@ const NOTHING: Candidate = Candidate {
     projection_fraction: 0.0,
 };
 
-// At most N candidates, in the first `count` places.
+// At most N candidates, in the first `count` places: fixed memory, so an array with a count.
 #[derive(Drop)]
 pub struct Best<const N: usize> {
     count: usize,

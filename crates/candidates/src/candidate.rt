@@ -1,7 +1,7 @@
 // What a measured row gives: its candidate, if it passes.
 ghost use Rattle.std.specs.Prelude.{◌≡◌, ◌≤◌};
 ghost use Rattle.model.specs.Candidates.{candidate_of};
-ghost use Rattle.candidates.specs.Found.{if_passes};
+ghost use Rattle.candidates.specs.Found.{by_number, if_passes};
 
 use crate::score;
 use model::{Point, Road, Row, Settings};
@@ -19,15 +19,35 @@ pub struct Candidate {
     pub projection_fraction: f64,
 }
 
-// The candidate of a row w of the point p, on the road r that it names, if it is kept: a class difference above the tolerance drops it unless it is a slip road; distance and bearing only above their maxima.
+// The candidate of a row w of the point p, on the road r that it names.
+#[tactic(auto, unfolding(model::specs::Candidates::candidate_of))]
+pub fn candidate_of(c: &Settings, p: Point, w: Row, r: Road) -> Candidate
+    requires { (p.frc ≤ 7) × (r.frc ≤ 7) }
+    ensures { result ≡ by_number (candidate_of c.now p (record { row = w; road = r })) }
+{
+    let frc_diff = road_class::class_difference(r.frc, p.frc);
+    let bearing_diff = spatial::bearing_difference(f64::from(p.bearing), w.bearing);
+    let fow_score = road_class::substitution_score(p.fow, r.fow);
+    let score = score::compute_score(c, w.distance_m, bearing_diff, frc_diff, fow_score);
+    Candidate {
+        edge_idx: r.number,
+        distance_m: w.distance_m,
+        bearing_diff,
+        frc_diff,
+        fow_score,
+        score,
+        projection_fraction: spatial::fraction(w.along_m, w.length_m),
+    }
+}
+
+// The candidate, if it is kept: a class difference above the tolerance drops it unless it is a slip road; distance and bearing only above their maxima.
 #[tactic(auto, using(std::proofs::lemmas::Bool::Decides::nat_tests), unfolding(model::specs::Candidates::candidate_of, model::specs::Candidates::passes))]
 pub fn kept(c: &Settings, p: Point, w: Row, r: Road) -> Option<Candidate>
     requires { (p.frc ≤ 7) × (r.frc ≤ 7) }
     ensures { result ≡ if_passes c.now (candidate_of c.now p (record { row = w; road = r })) }
 {
     let frc_diff = road_class::class_difference(r.frc, p.frc);
-    let no_slip_road = r.fow != 6;
-    if frc_diff > c.frc_tolerance && no_slip_road {
+    if frc_diff > c.frc_tolerance && r.fow != road_class::SLIP_ROAD {
         return None;
     }
     if w.distance_m > c.search_radius_m {
@@ -37,15 +57,5 @@ pub fn kept(c: &Settings, p: Point, w: Row, r: Road) -> Option<Candidate>
     if bearing_diff > c.max_bearing_diff {
         return None;
     }
-    let fow_score = road_class::substitution_score(p.fow, r.fow);
-    let score = score::compute_score(c, w.distance_m, bearing_diff, frc_diff, fow_score);
-    Some(Candidate {
-        edge_idx: r.number,
-        distance_m: w.distance_m,
-        bearing_diff,
-        frc_diff,
-        fow_score,
-        score,
-        projection_fraction: spatial::fraction(w.along_m, w.length_m),
-    })
+    Some(candidate_of(c, p, w, r))
 }

@@ -8,15 +8,15 @@ use crate::candidate::Candidate;
 use model::{Point, Settings};
 use sheet::Sheet;
 use std::marker::Model;
+use std::ops::Range;
 
-// What is left of a point's rows: those from `next` on, before `end`.
+// What is left of a point's rows.
 #[derive(Drop)]
 pub struct Passing<'a> {
     sheet: Sheet<'a>,
     settings: Settings,
     point: Point,
-    next: usize,
-    end: usize,
+    rows: Range<usize>,
 }
 
 // Clauses see the candidates that are left, in the order of their roads' numbers.
@@ -28,24 +28,23 @@ impl<'a> Model for Passing<'a> {
 
     ghost use Rattle.candidates.specs.Rows.{left};
 
-    ghost view = { λ s. left s.sheet.bytes.now s.sheet.counts s.settings s.point s.next s.end };
+    ghost view = { λ s. left s.sheet.bytes.now s.sheet.counts s.settings s.point s.rows.start s.rows.end };
 
-    ghost invariant = { λ s. (s.point.frc ≤ 7) × (s.end ≤ s.sheet.counts.m) };
+    ghost invariant = { λ s. (s.point.frc ≤ 7) × (s.rows.end ≤ s.sheet.counts.m) };
 }
 
 impl<'a> Passing<'a> {
-    // Those of point i.
+    // The rows of point i that pass, from the first on.
     pub fn new(sheet: &Sheet<'a>, i: usize) -> Self
         requires { i < sheet.now.counts.p }
         ensures { (result ≡ map by_number (kept_at (contents sheet.now) i)) × Measured result }
     {
-        let next = sheet.first_row(i);
+        let first = sheet.first_row(i);
         Passing {
             sheet: *sheet,
             settings: sheet.settings(),
             point: sheet.point(i),
-            next,
-            end: next + sheet.row_count(i),
+            rows: first..first + sheet.row_count(i),
         }
     }
 }
@@ -63,10 +62,10 @@ impl Iterator for Passing<'_> {
     #[inline(always)]
     #[tactic(auto, using(crate::proofs::Reading::left_end, crate::proofs::Reading::left_none))]
     fn next(&mut self) -> Option<Candidate> {
-        while self.next < self.end {
-            let w = self.sheet.row(self.next);
+        // No plainer as a `for`, which would take the range: what is left of it is the iterator's own state.
+        while let Some(k) = self.rows.next() {
+            let w = self.sheet.row(k);
             let r = self.sheet.road(w.road);
-            self.next += 1;
             if let Some(x) = candidate::kept(&self.settings, self.point, w, r) {
                 return Some(x);
             }

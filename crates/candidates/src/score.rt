@@ -5,6 +5,7 @@ ghost use Rattle.model.specs.Candidates.{normalize, compute_score};
 use model::Settings;
 
 // value / max, and 0 where the maximum is 0.
+// No plainer as one function with `part_of` of ends: each is a definition of its own, one line long.
 #[tactic(auto, unfolding(model::specs::Candidates::normalize))]
 fn normalize(value: f64, max: f64) -> f64
     ensures { result ≡ normalize value max }

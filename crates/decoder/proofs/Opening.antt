@@ -17,7 +17,7 @@ use Rattle.sheet.specs.Contents.{contents}
 use Rattle.judge.specs.Verdict.{judged_as}
 use Rattle.answers.specs.declared.Sizes.{Sizes}
 use Rattle.answers.specs.Room.{lent_of, answer_of}
-use Rattle.decoder.specs.Opened.{OfSizes, Room, Opens}
+use Rattle.decoder.specs.Opened.{Room, Opens}
 use Rattle.decoder.proofs.Judged.{early, no_second}
 
 module _ (s : List ℕ) (a : Sizes) where

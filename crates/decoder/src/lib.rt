@@ -1,7 +1,7 @@
 // The whole call: one sheet of bytes and lent areas in, an answer and two answer lists out. Nothing is presumed of the caller.
 #![tactic(auto)]
 
-ghost use Rattle.std.specs.Prelude.{◌≡◌, ◌<◌, ◌≤◌, ◌*◌, length};
+ghost use Rattle.std.specs.Prelude.{◌≡◌, ◌<◌, ◌≤◌, length};
 ghost use Rattle.model.specs.View.{view};
 ghost use Rattle.model.specs.Search.{bounded_astar};
 ghost use Rattle.model.specs.Decode.{outcome};
@@ -30,24 +30,24 @@ fn open_sheet(bytes: &[u8], a: Sizes) -> Result<Sheet<'_>, DecodeError>
 }
 
 // A well-formed sheet with room: its legs, then its answer and the answer lists.
-#[tactic(auto, using(crate::proofs::Calling::answered_as))]
 fn decode_sheet(
-    sheet: &Sheet<'_>,
     areas: &mut SearchAreas<'_>,
     coverages: &mut Coverages<'_>,
     ids: &mut [u64],
     lengths: &mut [f64],
 ) -> Answer
-    requires areas { areas.old.nodes ≡ sheet.now.counts.n }
-    requires room { let most = most_entries sheet.now.counts.p sheet.now.counts.n in (coverages.old.count ≡ 0) × (most ≤ length coverages.old.roads.now) × (most ≤ length coverages.old.metres.now) × (most ≤ length ids.old) × (most ≤ length lengths.old) }
+    requires room { let most = most_entries areas.old.sheet.counts.p areas.old.sheet.counts.n in (most ≤ length coverages.old.roads.now) × (most ≤ length coverages.old.metres.now) × (most ≤ length ids.old) × (most ≤ length lengths.old) }
     ensures { decoded result ids.new lengths.new
-        ≡ answered (contents sheet.now) (lists ids.old lengths.old) (outcome (view (contents sheet.now)) (bounded_astar areas.old.slots)) }
+        ≡ answered (contents areas.old.sheet) (lists ids.old lengths.old) (outcome (view (contents areas.old.sheet)) (bounded_astar areas.old.slots)) }
 {
-    let found = location::decode_legs(sheet, areas, coverages, ids);
-    finalize::answer(sheet, found, coverages, ids, lengths)
+    let sheet = areas.sheet;
+    let found = location::decode_legs(areas, coverages, ids);
+    let metres = &coverages.metres[..coverages.count];
+    finalize::answer(&sheet, found, coverages.roads, metres, ids, lengths)
 }
 
 // One call, on any bytes and any areas. Refusals 1 to 6 leave both answer lists untouched; 7 to 11 zero them; a match zeroes the entries after the path. What stands in the work areas before has no part in the answer. What stands there afterwards is the program's choice: their lengths stay, and no later call reads it before writing.
+// Nine slices and their sizes (the C interface): each area is lent by its own pointer and length, and judged by it before any struct is made.
 #[tactic(auto, unfolding(crate::specs::Opened::Opens))]
 pub fn decode(
     sheet: &[u8],
@@ -79,18 +79,11 @@ pub fn decode(
         lengths: lengths.len(),
     };
     let sheet = open_sheet(sheet, sizes)?;
-    let mut areas = SearchAreas::new(
-        sheet.counts.n,
-        sizes.heap,
-        labels,
-        came_from,
-        entries,
-        links,
-    );
+    let mut areas = SearchAreas::new(sheet, sizes.heap, labels, came_from, entries, links);
     let mut coverages = Coverages {
         roads: covered,
         metres: coverage,
         count: 0,
     };
-    decode_sheet(&sheet, &mut areas, &mut coverages, ids, lengths)
+    decode_sheet(&mut areas, &mut coverages, ids, lengths)
 }

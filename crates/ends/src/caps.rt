@@ -20,6 +20,7 @@ pub fn snap_cap_m(c: Settings, expected_m: f64, length_m: f64) -> f64
 }
 
 // An offset as a part of its road's length, 0 on a road of length 0.
+// No plainer as one function with `normalize` of candidates: each is a definition of its own, one line long.
 #[tactic(auto, unfolding(model::specs::Ends::part_of))]
 pub fn part_of(offset: f64, metres: f64) -> f64
     ensures { result ≡ part_of offset metres }

@@ -34,7 +34,8 @@ pub struct Final {
 }
 
 // The walk at an end of the path in the first n of `ids`, kept only if the point there is strictly nearer the new end.
-// A count beside the slice, here and below: what is added goes into the room behind.
+// A count beside the slice, here and below, since memory is fixed: what is added goes into the room behind.
+// `RoadNumbers` and the room, here and below: no plainer as facts of a type, they are about a sheet and numbers that only a struct made for one call could hold.
 pub fn walk_at<E: End>(
     sheet: &Sheet<'_>,
     ids: &mut [usize],
@@ -67,6 +68,7 @@ pub fn walk_at<E: End>(
 }
 
 // finalize_path: the walk at the end of the path in the first n of `ids`, then the one at its start. `start` and `end` are the offsets of the projections.
+// No plainer with a struct of a cap and an offset: it would be made for this one call.
 pub fn finalize_path(
     sheet: &Sheet<'_>,
     ids: &mut [usize],

@@ -10,6 +10,7 @@ use road_network::graph::Direction;
 use sheet::Sheet;
 
 // What a walk adds: so many roads, of so many metres.
+// A count beside the slice that they are written to, since memory is fixed.
 #[derive(Clone, Copy)]
 pub struct Extension {
     pub count: usize,
@@ -17,6 +18,7 @@ pub struct Extension {
 }
 
 // Whether a walk from road r may add a road. From a fork it adds none, nor without a first way within the cap: these spare the test of the node, which reads all roads.
+#[tactic(auto, using(crate::proofs::Starts::valid_none, crate::proofs::Starts::no_way_none, road_network::proofs::Forks::fork_valid))]
 fn may_start<D: Direction>(sheet: &Sheet<'_>, cap: f64, r: usize) -> bool
     requires { r < sheet.now.counts.e }
     ensures { result ≡ false → (path : List ℕ) → extension (contents sheet.now) D.forward cap path r ≡ none }
@@ -28,6 +30,7 @@ fn may_start<D: Direction>(sheet: &Sheet<'_>, cap: f64, r: usize) -> bool
     let Some(x) = D::way(sheet, r) else {
         return false;
     };
+    // From 0, as the definition sums.
     let metres = 0.0 + sheet.length_m(x);
     !(cap < metres)
 }
@@ -49,6 +52,7 @@ pub fn extend<D: Direction>(
     let mut road = r;
     let mut count = 0;
     let mut metres = 0.0;
+    // A `loop`, as the scope has it: the walk ends where no way is forced. `count` is what it adds, no bound of it.
     loop {
         let Some(x) = D::forced(sheet, road) else {
             break;

@@ -1,5 +1,5 @@
 -- The answer of a reference from how its legs end: its primary road, what a path says of the numbers written, and the walks at both ends.
-use Rattle.std.proofs.Common.{ℕ, ◌≡◌, ◌+◌, ◌-◌, ◌*◌, ◌≤◌, ◌<◌, List, length, get_or, take, Option, Some, None, Result, Ok, sym, ap, ◌∙◌, arith}
+use Rattle.std.proofs.Common.{ℕ, ◌≡◌, ◌+◌, ◌-◌, ◌*◌, ◌≤◌, ◌<◌, List, length, map, get_or, take, Option, Some, None, Result, Ok, sym, ap, ◌∙◌, arith}
 use Rattle.std.proofs.lemmas.List.{length-map}
 use Rattle.std.proofs.Math.Nat.{add-mul}
 use Rattle.std.proofs.Math.Seq.{length-take-le, get_or-take}
@@ -30,7 +30,8 @@ use Rattle.sheet.specs.Contents.{contents}
 use Rattle.search.specs.Answers.{RoadNumbers}
 use Rattle.full_path.specs.declared.EdgeCoverage.{EdgeCoverage}
 use Rattle.full_path.specs.declared.Coverages.{Coverages}
-use Rattle.full_path.specs.Left.{coverage_of, coverages_at, primary_of}
+use Rattle.full_path.specs.Left.{coverage_of, coverages_at, paired, Covers, OnRoads, primary_of}
+use Rattle.full_path.proofs.Added.{numbers_front}
 use Rattle.lines.specs.declared.FullPath as code
 use Rattle.lines.specs.Legs.{segment_as, road_numbers, PathWritten, PathStored, LegsWritten}
 
@@ -53,14 +54,22 @@ module _ (t : definition.Sheet) (c : Counts) (o : Outcome) (ids : List ℕ) (cs 
   walks_fit = omega (arith, stored.few_roads, add-mul c.p 4 (c.n + 1))
 
   -- the outcome, by the primary road that was found
-  module _ {p : Option EdgeCoverage} (primary : (t : definition.Sheet) → primary_of t p ≡ primary_edge (coverages_at t cs)) where
+  module _ {p : Option EdgeCoverage} (primary : primary_of t p ≡ primary_edge (coverages_at t cs)) where
     pub uncovered : p ≡ None → o ≡ refused 10 0 (c.p - 1)
     unfolding with_primary maybe
-    uncovered none = legs_end.1.1 ∙ rw (← stored.coverages, ← primary t, none)
+    uncovered none = legs_end.1.1 ∙ rw (← stored.coverages, ← primary, none)
 
     pub covered : {e : EdgeCoverage} → p ≡ Some e → o ≡ matched path (coverage_of t e)
     unfolding with_primary maybe
-    covered some = legs_end.1.1 ∙ rw (← stored.coverages, ← primary t, some)
+    covered some = legs_end.1.1 ∙ rw (← stored.coverages, ← primary, some)
+
+-- the coverages are of these roads, with these metres
+module _ (cs : Coverages) (roads : List ℕ) (metres : List Float) (are : Covers cs roads metres) where
+  pub primary_is : (t : definition.Sheet) (p : Option EdgeCoverage) → primary_of t p ≡ primary_edge (map (coverage_of t) (paired (take (length metres) roads) metres)) → primary_of t p ≡ primary_edge (coverages_at t cs)
+  primary_is t p is = rw (are.1, are.2, are.0) is
+
+  pub roads_below : (e : ℕ) → OnRoads e cs → RoadNumbers e (length (take (length metres) roads)) (take (length metres) roads)
+  roads_below e below = rw (are.1, are.0) at (numbers_front e cs.count cs.roads.now (omega arith) below)
 
 module _ {k : FullPath} {ids : List ℕ} {x : code.FullPath} (runs : PathWritten k ids x) where
   -- a matched path runs over roads of the sheet, at least one

@@ -3,7 +3,6 @@
 
 ghost use Rattle.std.specs.Prelude.{◌≡◌, ℕ, ◌+◌, ◌*◌, ◌≤◌, ◌<◌, length, Ok};
 ghost use Rattle.model.specs.Sheet as definition;
-ghost use Rattle.model.specs.Sheet.{road_at};
 ghost use Rattle.model.specs.View.{view};
 ghost use Rattle.model.specs.Search.{bounded_astar};
 ghost use Rattle.model.specs.Refusals.{number_of, place_a, place_b};
@@ -13,18 +12,19 @@ ghost use Rattle.model.specs.Call.{answered, most_entries};
 ghost use Rattle.sheet.specs.Contents.{contents};
 ghost use Rattle.answers.specs.Room.{lists, decoded};
 ghost use Rattle.search.specs.Answers.{RoadNumbers};
-ghost use Rattle.full_path.specs.Left.{coverage_of};
+ghost use Rattle.full_path.specs.declared.Coverages.{Coverages};
+ghost use Rattle.full_path.specs.Left.{coverage_of, Covers};
 ghost use Rattle.lines.specs.Legs.{PathWritten, LegsWritten};
 
 use answers::{Answer, Match};
 use ends::caps;
-use full_path::{Coverages, EdgeCoverage};
+use full_path::{EdgeCoverage, coverage};
 use lines::FullPath;
 use model::error::DecodeError;
 use sheet::Sheet;
 
 // A refusal's answer: zeros in both lists.
-// Two slices, here and below: a struct of both would need their references' names in every contract.
+// Two slices, here and below, as in answers: the lists are lent apart, and `ids` is read as the path first.
 #[tactic(auto, unfolding(model::specs::Call::answered, model::specs::Call::written, model::specs::Lists::pad, answers::specs::Room::answer_of))]
 fn refuse(e: DecodeError, ids: &mut [u64], lengths: &mut [f64]) -> Answer
     ensures { (t : definition.Sheet) → decoded result ids.new lengths.new ≡ answered t (lists ids.old lengths.old) (refused (number_of e) (place_a e) (place_b e)) }
@@ -35,6 +35,7 @@ fn refuse(e: DecodeError, ids: &mut [u64], lengths: &mut [f64]) -> Answer
 }
 
 // A match, with the primary road and its coverage: the path goes from `ids` to `path`, is walked on at both ends, and comes back into both lists.
+// A count beside `path` (fixed memory): the walks add roads behind it.
 fn finish_path(
     sheet: &Sheet<'_>,
     x: FullPath,
@@ -77,28 +78,29 @@ fn finish_path(
     }
 }
 
-// The answer of a reference whose legs ended so, and both answer lists: a refusal zeroes them. A path without coverage is refused from the first point to the last.
+// The answer of a reference whose legs ended so, with these coverages, and both answer lists: a refusal zeroes them. A path without coverage is refused from the first point to the last. The coverages are of the first of `roads`, as many as there are `metres`; the whole of it is the path's work area afterwards.
 #[tactic(auto, using(crate::proofs::Closing::walks_fit))]
 pub fn answer(
     sheet: &Sheet<'_>,
     found: Result<FullPath, DecodeError>,
-    coverages: &mut Coverages<'_>,
+    roads: &mut [usize],
+    metres: &[f64],
     ids: &mut [u64],
     lengths: &mut [f64],
 ) -> Answer
-    requires found { (slots : ℕ) × LegsWritten (contents sheet.now) sheet.now.counts (outcome (view (contents sheet.now)) (bounded_astar slots)) ids.old coverages.old found }
-    requires room { let most = most_entries sheet.now.counts.p sheet.now.counts.n in (most ≤ length coverages.old.roads.now) × (most ≤ length ids.old) × (most ≤ length lengths.old) }
-    ensures { (slots : ℕ) → LegsWritten (contents sheet.now) sheet.now.counts (outcome (view (contents sheet.now)) (bounded_astar slots)) ids.old coverages.old found
+    requires found { (slots : ℕ) × (x : Coverages) × Covers x roads.old metres.now × LegsWritten (contents sheet.now) sheet.now.counts (outcome (view (contents sheet.now)) (bounded_astar slots)) ids.old x found }
+    requires room { let most = most_entries sheet.now.counts.p sheet.now.counts.n in (length metres.now ≤ length roads.old) × (most ≤ length roads.old) × (most ≤ length ids.old) × (most ≤ length lengths.old) }
+    ensures { (slots : ℕ) (x : Coverages) → Covers x roads.old metres.now → LegsWritten (contents sheet.now) sheet.now.counts (outcome (view (contents sheet.now)) (bounded_astar slots)) ids.old x found
         → decoded result ids.new lengths.new ≡ answered (contents sheet.now) (lists ids.old lengths.old) (outcome (view (contents sheet.now)) (bounded_astar slots)) }
 {
-    let path = match found {
-        Ok(path) => path,
+    let legs = match found {
+        Ok(legs) => legs,
         Err(e) => return refuse(e, ids, lengths),
     };
-    let Some(primary) = coverages.primary_edge() else {
+    let Some(primary) = coverage::primary_edge(&roads[..metres.len()], metres) else {
         let from = 0;
         let to = sheet.counts.p - 1;
         return refuse(DecodeError::NoPath { from, to }, ids, lengths);
     };
-    Ok(finish_path(sheet, path, primary, coverages.roads, ids, lengths))
+    Ok(finish_path(sheet, legs, primary, roads, ids, lengths))
 }

@@ -1,5 +1,5 @@
 -- One coverage more, in the areas as in the list that they stand for.
-use Rattle.std.proofs.Common.{◌≡◌, ◌≢◌, ◌==◌, ℕ, zero, suc, ◌+◌, ◌≤◌, ◌<◌, List, [], ◌∷◌, ◌++◌, map, length, get_or, set, take, position, Option, Some, None, refl, sym, ap, ◌∙◌, inl, inr, arith, length-take-le, get_or-take, get_or-set_same, get_or-set_other}
+use Rattle.std.proofs.Common.{◌≡◌, ◌≢◌, ◌==◌, ℕ, zero, suc, ◌+◌, ◌≤◌, ◌<◌, List, [], ◌∷◌, ◌++◌, map, length, get_or, set, take, position, Some, None, refl, sym, ap, ◌∙◌, inl, inr, arith, length-take-le, get_or-take, get_or-set_same, get_or-set_other}
 use Rattle.std.proofs.lemmas.Grind.{common_steps}
 use Rattle.std.proofs.lemmas.List.{map-append, take_more_set}
 use Rattle.std.proofs.lemmas.List.Quantifiers.{position-Some}
@@ -16,6 +16,10 @@ use Rattle.bounds.proofs.Choices.{same_or_other}
 use Rattle.search.specs.Answers.{RoadNumbers}
 use Rattle.full_path.specs.declared.EdgeCoverage.{EdgeCoverage}
 use Rattle.full_path.specs.Left.{coverage_of, Numbered, paired}
+
+-- the numbers in the front of an area
+pub numbers_front : (e n : ℕ) (roads : List ℕ) → n ≤ length roads → RoadNumbers e n roads → RoadNumbers e (length (take n roads)) (take n roads)
+numbers_front e n roads room below j h = let inside : j < n = omega (arith, length-take-le n roads room) in rw (get_or-take n roads j 0 inside) (below j inside)
 
 -- ---- in two lists
 
@@ -78,11 +82,8 @@ module _ (roads : List ℕ) (metres : List Float) (n : ℕ) (k : EdgeCoverage) (
       (map-append (coverage_of t) (paired (take n roads) (take n metres)) (k ∷ []))
 
   module _ (t : Sheet) (e : ℕ) (own : Numbered t e) (below : RoadNumbers e n roads) (known : k.edge_idx < e) where
-    front_is : (j : ℕ) → j < n → get_or (take n roads) j 0 ≡ get_or roads j 0
-    front_is j h = get_or-take n roads j 0 h
-
     below_front : RoadNumbers e (length (take n roads)) (take n roads)
-    below_front j h = rw (front_is j (omega (arith, front))) (below j (omega (arith, front)))
+    below_front = numbers_front e n roads (omega arith) below
 
     pub summed : (at : ℕ) → position (λ r. r == k.edge_idx) (take n roads) ≡ Some at
         → covers t (take n roads) (take n (set metres at (get_or metres at nan ⊕ k.coverage_m))) ≡ cover (covers t (take n roads) (take n metres)) (coverage_of t k)

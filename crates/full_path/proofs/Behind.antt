@@ -1,5 +1,5 @@
 -- A leg's roads behind a path: a first one that is the path's last is not written again.
-use Rattle.std.proofs.Common.{◌≡◌, ℕ, zero, suc, ◌+◌, ◌-◌, ◌≤◌, ◌<◌, Bool, true, false, ◌&&◌, eqb, List, [], ◌∷◌, ◌++◌, length, get_or, take, drop, Option, Some, None, refl, sym, ap, ◌∙◌, arith, append_assoc, length-append, length-take-le, slice_get}
+use Rattle.std.proofs.Common.{◌≡◌, ℕ, zero, suc, ◌+◌, ◌-◌, ◌≤◌, ◌<◌, Bool, true, false, ◌&&◌, eqb, List, [], ◌∷◌, ◌++◌, length, get_or, take, drop, Option, Some, None, refl, sym, ap, ◌∙◌, arith, append_assoc, length-append, length-drop, length-take-le, slice_get}
 use Rattle.std.proofs.lemmas.List.{take_at, drop_at, take_more}
 use Rattle.std.proofs.lemmas.Option.{slice_get-get_or}
 use Rattle.std.specs.Option.{is_some, option_eq}
@@ -52,6 +52,9 @@ module _ (ids ns ids₁ : List ℕ) (n from : ℕ) (room : n + length ns ≤ len
   front : length (take from ids) ≡ from
   front = length-take-le from ids (omega arith)
 
+  size : length ids₁ ≡ length ids
+  size = ap length is ∙ simp (length-append, length-drop) (omega (arith, front))
+
   put_path : take (from + length ns) ids₁ ≡ take from ids ++ ns
   put_path = rw is (take_at (take from ids ++ ns) _ (from + length ns) (omega (arith, front, length-append (take from ids) ns)))
 
@@ -60,6 +63,7 @@ module _ (ids ns ids₁ : List ℕ) (n from : ℕ) (room : n + length ns ≤ len
 
   pub appended_here : from ≡ n → ns ≡ unwritten (last (take n ids)) ns → Appended ids n ns ids₁ from
   appended_here here all = record {
+    size = size;
     near = (omega arith, omega arith);
     behind = omega arith;
     path = put_path ∙ rw here (ap (λ (xs : List ℕ). take n ids ++ xs) all);
@@ -72,6 +76,7 @@ module _ (ids ns ids₁ : List ℕ) (n from : ℕ) (room : n + length ns ≤ len
       let at : get_or ids from 0 ≡ k = some-injective _ _ (sym (ap (λ m. some (get_or ids m 0)) {x = n - 1} {y = from} (omega arith)) ∙ sym (last_part 0 n ids (omega arith) (omega arith)) ∙ last_one) in
       let longer : take n ids ≡ take from ids ++ k ∷ [] = rw (over, ← at) (take_more ids from 0 (omega arith)) in
       record {
+        size = size;
         near = (omega arith, omega arith);
         behind = omega (arith, ap length all);
         path = put_path ∙ ap (λ (xs : List ℕ). take from ids ++ xs) all ∙ sym (append_snoc (take from ids) k left) ∙ ap (λ (xs : List ℕ). xs ++ left) (sym longer);

@@ -1,17 +1,20 @@
 -- The greatest coverage, one entry after the other.
-use Rattle.std.proofs.Common.{◌≡◌, ◌⊎◌, inl, inr, ℕ, suc, ◌<◌, Bool, true, false, cond, List, [], ◌∷◌, map, length, get_or, take, Option, Some, None, refl, ap, ◌∙◌, sym, arith, length-take-le, get_or-take}
+use Rattle.std.proofs.Common.{◌≡◌, ◌⊎◌, inl, inr, ℕ, suc, ◌<◌, Bool, true, false, cond, List, [], ◌∷◌, map, length, Option, Some, None, refl, ap, ◌∙◌, arith}
 use Rattle.std.specs.List.{reduce, fold}
 use Rattle.std.specs.Float.Ieee.{Float}
 use Rattle.std.proofs.Math.Option as definition
 use Rattle.model.specs.Numbers.{◌<ᶠ◌}
 use Rattle.model.specs.Lists as lists
 use Rattle.model.specs.Sheet.{Sheet}
-use Rattle.model.specs.Legs as legs
 use Rattle.model.specs.Decode.{primary_edge}
 use Rattle.model.specs.Decode as decode
 use Rattle.search.specs.Answers.{RoadNumbers}
 use Rattle.full_path.specs.declared.EdgeCoverage.{EdgeCoverage}
-use Rattle.full_path.specs.Left.{coverage_of, paired, greater, primary_of, Within}
+use Rattle.full_path.specs.Left.{coverage_of, paired, primary_of, Within}
+
+-- the first of two if equal
+abbrev pub greater : EdgeCoverage → EdgeCoverage → EdgeCoverage
+greater a b = cond (a.coverage_m <ᶠ b.coverage_m) b a
 
 -- the greatest of those so far and the rest
 abbrev pub greatest_on : Option EdgeCoverage → List EdgeCoverage → Option EdgeCoverage

@@ -1,8 +1,7 @@
 -- What a leg leaves: its roads behind those already written, and the metres covered of each road, both by the numbers of the roads.
-use Rattle.std.specs.Prelude.{ℕ, ◌+◌, ◌≤◌, ◌<◌, ◌≡◌, cond, List, [], ◌∷◌, ◌++◌, map, eqb, length, get_or, take, drop, Float, Option, Some, None}
+use Rattle.std.specs.Prelude.{ℕ, ◌+◌, ◌≤◌, ◌<◌, ◌≡◌, cond, List, [], ◌∷◌, ◌++◌, map, eqb, length, take, drop, Float, Option, Some, None}
 use Rattle.std.proofs.Math.Option as definition
 use Rattle.std.specs.List.{zip}
-use Rattle.model.specs.Numbers.{◌<ᶠ◌}
 use Rattle.model.specs.declared.Counts.{Counts}
 use Rattle.model.specs.Lists.{last, maybe, fold}
 use Rattle.model.specs.Sheet.{Sheet, road_at}
@@ -11,13 +10,17 @@ use Rattle.model.specs.Decode.{cover}
 use Rattle.rules.specs.declared.Middle.{Middle}
 use Rattle.rules.specs.declared.TerminalEdge.{TerminalEdge}
 use Rattle.rules.specs.declared.PathResult.{PathResult}
-use Rattle.rules.specs.Code.{terminal_of, with_middle}
-use Rattle.search.specs.Areas.{back_way, LeadsBack}
+use Rattle.rules.specs.Code.{with_middle}
 use Rattle.search.specs.Answers.{RoadNumbers}
 use Rattle.full_path.specs.declared.EdgeCoverage.{EdgeCoverage}
 use Rattle.full_path.specs.declared.Covering.{Covering}
 use Rattle.full_path.specs.declared.Covering.TheVariants.{PerRoad, PerPass}
 use Rattle.full_path.specs.declared.Coverages.{Coverages}
+
+-- how many roads a middle has
+abbrev pub count_of : Option Middle → ℕ
+count_of None = 0
+count_of (Some m) = m.count
 
 -- ---- a route on the sheet t, whose middle has the roads ks
 
@@ -28,13 +31,9 @@ path_of t r ks = with_middle r (map (road_at t) ks)
 abbrev pub covers : Sheet → PathResult → List ℕ → List legs.EdgeCoverage
 covers t r ks = (path_of t r ks).coverages
 
--- the numbers of its middle: the marks lead back over them
-abbrev pub middle_numbers : Sheet → List ℕ → Middle → List ℕ
-middle_numbers t came m = back_way (road_at t) came m.count m.goal
-
--- they can be walked
-abbrev pub Walkable : Sheet → Counts → List ℕ → Middle → Type 0
-Walkable t c came m = 0 < m.count → (m.goal < c.n) × (c.n ≤ length came) × LeadsBack (road_at t) c.e came m.count m.goal
+-- how many roads its middle has
+abbrev pub middle_count : PathResult → ℕ
+middle_count r = count_of r.middle
 
 -- a terminal road that is kept is one of the sheet's e roads
 abbrev pub Own : Sheet → ℕ → Option TerminalEdge → Type 0
@@ -71,6 +70,7 @@ unwritten o (x ∷ xs) = maybe o (x ∷ xs) (λ y. cond (eqb y x) xs (x ∷ xs))
 
 -- A leg's roads ns behind the first n of `ids`, from the place `from` on: there, or over the last one where it is the first of them.
 pub record Appended (ids : List ℕ) (n : ℕ) (ns ids₁ : List ℕ) (from : ℕ) : Type 0 where
+  pub size : length ids₁ ≡ length ids
   pub near : (from ≤ n) × (n ≤ from + 1)
   pub behind : n ≤ from + length ns
   pub path : take (from + length ns) ids₁ ≡ take n ids ++ unwritten (last (take n ids)) ns
@@ -90,15 +90,13 @@ Numbered t e = (k : ℕ) → k < e → (road_at t k).number ≡ k
 abbrev pub paired : List ℕ → List Float → List EdgeCoverage
 paired roads metres = map (λ p. record { edge_idx = p.0; coverage_m = p.1 }) (zip roads metres)
 
-abbrev pub entries : Coverages → List EdgeCoverage
-entries x = paired (take x.count x.roads.now) (take x.count x.metres.now)
-
--- those that they stand for
+-- those that the areas stand for
 abbrev pub coverages_at : Sheet → Coverages → List legs.EdgeCoverage
-coverages_at t x = map (coverage_of t) (entries x)
+coverages_at t x = map (coverage_of t) (paired (take x.count x.roads.now) (take x.count x.metres.now))
 
-abbrev pub greater : EdgeCoverage → EdgeCoverage → EdgeCoverage
-greater a b = cond (a.coverage_m <ᶠ b.coverage_m) b a
+-- as many as there are metres, with the first of the roads
+abbrev pub Covers : Coverages → List ℕ → List Float → Type 0
+Covers x roads metres = (x.count ≡ length metres) × (take x.count x.roads.now ≡ take x.count roads) × (take x.count x.metres.now ≡ metres)
 
 -- they are of the sheet's e roads
 abbrev pub OnRoads : ℕ → Coverages → Type 0

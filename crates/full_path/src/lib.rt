@@ -14,6 +14,7 @@ pub struct EdgeCoverage {
 }
 
 // How a coverage joins those before it: summed with those of its road, as for a line, or as an entry of its own, as for a point along line.
+// No plainer as a trait: `add` alone asks for it, and each function down to there would have a type parameter.
 #[derive(Clone, Copy)]
 pub enum Covering {
     PerRoad,
@@ -21,6 +22,8 @@ pub enum Covering {
 }
 
 // The coverages so far, in the order of the roads' first traversal, in two areas that are lent: the road of each by its number, and its metres.
+// Two slices and a count: the C interface lends them so.
+// No plainer with the sheet of their roads in here (`OnRoads`): a call which also has the areas would have to say that both hold the same sheet.
 #[derive(Drop)]
 pub struct Coverages<'a> {
     pub roads: &'a mut [usize],

@@ -1,33 +1,34 @@
 // The roads of a leg in the answer list, by their numbers.
 ghost use Rattle.std.specs.Prelude.{◌≡◌, ℕ, List, ◌++◌, ◌+◌, ◌≤◌, ◌<◌, length, drop};
 ghost use Rattle.model.specs.Lists.{head};
-ghost use Rattle.sheet.specs.Contents.{contents};
-ghost use Rattle.full_path.specs.Left.{terminal_numbers, numbers_of, middle_numbers, number_as, Walkable, Appended};
+ghost use Rattle.search.specs.Traces.{traced_numbers};
+ghost use Rattle.full_path.specs.Left.{terminal_numbers, numbers_of, middle_count, number_as, Appended};
 
-use rules::{Middle, PathResult, TerminalEdge};
-use search::route;
-use sheet::Sheet;
+use rules::{PathResult, TerminalEdge};
+use search::route::Trace;
 
 // How many roads a route has.
 pub fn count_roads(r: &PathResult) -> usize
-    requires { r.now.middle.count + 2 ≤ usize.MAX }
-    ensures { (ks : List ℕ) → length ks ≡ r.now.middle.count → result ≡ length (numbers_of r.now ks) }
+    requires { middle_count r.now + 2 ≤ usize.MAX }
+    ensures many { (ks : List ℕ) → length ks ≡ middle_count r.now → result ≡ length (numbers_of r.now ks) }
+    ensures few { result ≤ middle_count r.now + 2 }
 {
-    usize::from(r.head.is_some()) + r.middle.count + usize::from(r.tail.is_some())
+    let between = r.middle.map_or(0, |m| m.count);
+    usize::from(r.head.is_some()) + between + usize::from(r.tail.is_some())
 }
 
 // The number of a route's first road, if it has one.
-fn first_number(sheet: &Sheet<'_>, r: &PathResult, came_from: &[usize]) -> Option<u64>
-    requires { Walkable (contents sheet.now) sheet.now.counts came_from.now r.now.middle }
-    ensures { number_as result ≡ head (numbers_of r.now (middle_numbers (contents sheet.now) came_from.now r.now.middle)) }
+// A route and its trace are two, here and below: no plainer as one, the route outlives the marks that are traced.
+#[tactic(auto, using(crate::proofs::Writing::head_traced, crate::proofs::Writing::none_traced), unfolding(model::specs::Lists::head))]
+fn first_number(r: &PathResult, middle: Option<Trace<'_>>) -> Option<u64>
+    ensures { number_as result ≡ head (numbers_of r.now (traced_numbers middle.entry)) }
 {
     if let Some(edge) = r.head {
+        // Casts, here and below: Rust has no `From` between usize and u64.
         return Some(edge.road.number as u64);
     }
-    let m = r.middle;
-    if 0 < m.count {
-        let number = route::first_back(sheet, came_from, m.goal, m.count);
-        return Some(number as u64);
+    if let Some(first) = middle.and_then(|trace| trace.first()) {
+        return Some(first as u64);
     }
     r.tail.map(|edge| edge.road.number as u64)
 }
@@ -44,43 +45,41 @@ fn write_terminal(p: Option<TerminalEdge>, out: &mut [u64]) -> usize
     1
 }
 
-// The roads between, to the front of `out`.
-fn write_middle(sheet: &Sheet<'_>, m: Middle, came_from: &[usize], out: &mut [u64])
-    requires { Walkable (contents sheet.now) sheet.now.counts came_from.now m × (m.count ≤ length out.old) }
-    ensures { out.new ≡ middle_numbers (contents sheet.now) came_from.now m ++ drop m.count out.old }
+// The roads between, to the front of `out`: how many.
+// Room is asked for here and below: no plainer as one fact, each asks for its own number of places.
+#[tactic(auto, using(crate::proofs::Writing::traced_size))]
+fn write_middle(middle: Option<Trace<'_>>, out: &mut [u64]) -> usize
+    requires { length (traced_numbers middle) ≤ length out.old }
+    ensures { (result ≡ length (traced_numbers middle.entry)) × (out.new ≡ traced_numbers middle.entry ++ drop result out.old) }
 {
-    if 0 < m.count {
-        route::write_back(sheet, came_from, m.goal, m.count, out);
-    }
+    let Some(trace) = middle else {
+        return 0;
+    };
+    trace.write(out);
+    trace.count
 }
 
 // The roads of a route in travel order, to the front of `out`.
-fn write_leg(sheet: &Sheet<'_>, r: &PathResult, came_from: &[usize], out: &mut [u64])
-    requires { Walkable (contents sheet.now) sheet.now.counts came_from.now r.now.middle × (r.now.middle.count + 2 ≤ length out.old) }
-    ensures { let ns = numbers_of r.now (middle_numbers (contents sheet.now) came_from.now r.now.middle) in out.new ≡ ns ++ drop (length ns) out.old }
+fn write_leg(r: &PathResult, middle: Option<Trace<'_>>, out: &mut [u64])
+    requires { length (traced_numbers middle) + 2 ≤ length out.old }
+    ensures { let ns = numbers_of r.now (traced_numbers middle.entry) in out.new ≡ ns ++ drop (length ns) out.old }
 {
     let first = write_terminal(r.head, out);
-    write_middle(sheet, r.middle, came_from, &mut out[first..]);
-    let last = first + r.middle.count;
+    let between = write_middle(middle, &mut out[first..]);
+    let last = first + between;
     write_terminal(r.tail, &mut out[last..]);
 }
 
 // The roads of a route behind the first n of `ids`; over the last of these where it is the route's first road, so that none stands twice. From which place on they stand.
-// A count beside the slice: the roads go into the room behind.
-pub fn append_leg(
-    sheet: &Sheet<'_>,
-    r: &PathResult,
-    came_from: &[usize],
-    n: usize,
-    ids: &mut [u64],
-) -> usize
-    requires { Walkable (contents sheet.now) sheet.now.counts came_from.now r.now.middle × (n + r.now.middle.count + 2 ≤ length ids.old) }
-    ensures { Appended ids.old n (numbers_of r.now (middle_numbers (contents sheet.now) came_from.now r.now.middle)) ids.new result }
+// A count beside the slice, since memory is fixed: the roads go into the room behind.
+pub fn append_leg(r: &PathResult, middle: Option<Trace<'_>>, n: usize, ids: &mut [u64]) -> usize
+    requires { n + length (traced_numbers middle) + 2 ≤ length ids.old }
+    ensures { Appended ids.old n (numbers_of r.now (traced_numbers middle.entry)) ids.new result }
 {
     let last = ids[..n].last().copied();
-    let first = first_number(sheet, r, came_from);
+    let first = first_number(r, middle);
     let twice = last.is_some() && last == first;
     let from = if twice { n - 1 } else { n };
-    write_leg(sheet, r, came_from, &mut ids[from..]);
+    write_leg(r, middle, &mut ids[from..]);
     from
 }

@@ -13,16 +13,16 @@ use Rattle.search.specs.declared.areas.SearchAreas.{SearchAreas}
 use Rattle.legs.specs.declared.Leg.{Leg}
 use Rattle.legs.specs.Found.{search_of}
 
-module _ (leg : Leg) (areas : SearchAreas) {starts ends : List Candidate} (ready : CandidatesReady leg.sheet.counts starts × CandidatesReady leg.sheet.counts ends) where
+module _ (leg : Leg) (areas : SearchAreas) {starts ends : List Candidate} (ready : CandidatesReady areas.sheet.counts starts × CandidatesReady areas.sheet.counts ends) where
   abbrev xs : List definition.Candidate
-  xs = held (contents leg.sheet) starts
+  xs = held (contents areas.sheet) starts
 
   abbrev ys : List definition.Candidate
-  ys = held (contents leg.sheet) ends
+  ys = held (contents areas.sheet) ends
 
   -- they are at most ten each
   ten_pairs : leg_pairs xs ys ≡ pairs xs ys
-  ten_pairs = rw (take_all 10 xs (omega (arith, ready.0.few, held_long (contents leg.sheet) starts)), take_all 10 ys (omega (arith, ready.1.few, held_long (contents leg.sheet) ends)))
+  ten_pairs = rw (take_all 10 xs (omega (arith, ready.0.few, held_long (contents areas.sheet) starts)), take_all 10 ys (omega (arith, ready.1.few, held_long (contents areas.sheet) ends)))
 
   pub outright : (s : Scored) → some s ≡ try_same_edge_solution leg.limits (pairs xs ys) → best s.path ≡ find_best_path leg.limits (search_of leg areas) xs ys
   unfolding find_best_path else_pairs

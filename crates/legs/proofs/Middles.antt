@@ -1,9 +1,8 @@
 -- What lies between two nodes of a leg: nothing between a node and itself, else what a search finds.
-use Rattle.std.proofs.Common.{◌≡◌, ℕ, ◌<◌, List, length, sym, ◌∙◌, subst, arith}
+use Rattle.std.proofs.Common.{◌≡◌, ℕ, ◌<◌, List, [], length, Some, refl, arith}
 use Rattle.std.specs.Prelude.{Float}
 use borrow.Author.Tests.{eq-eqb, ne_eqb}
-use Rattle.std.proofs.Math.Seq.{take_all}
-use Rattle.model.specs.declared.Road.{Road}
+use Rattle.model.specs.declared.Counts.{Counts}
 use Rattle.model.specs.declared.Limits.{Limits}
 use Rattle.model.specs.Numbers.{f0}
 use Rattle.model.specs.Sheet.{Sheet}
@@ -16,10 +15,10 @@ use Rattle.rules.specs.Code.{middle_in}
 use Rattle.search.specs.declared.SearchEnd as code
 use Rattle.search.specs.declared.SearchEnd.TheVariants as S
 use Rattle.search.specs.Query.{query_on}
+use Rattle.search.specs.Areas.{LeadsBack, back_way}
 use Rattle.search.specs.Answers.{told, roads_in, WayBack, Traced}
 use Rattle.sheet.specs.Contents.{contents}
 use Rattle.search.specs.declared.areas.SearchAreas.{SearchAreas}
-use Rattle.legs.specs.declared.Leg.{Leg}
 use Rattle.legs.specs.Found.{middle_search_at, Led, LedBy}
 
 module _ (t : Sheet) (slots : ℕ) (b : Limits) (start goal : ℕ) (bound : Float) where
@@ -31,27 +30,27 @@ module _ (t : Sheet) (slots : ℕ) (b : Limits) (start goal : ℕ) (bound : Floa
   unfolding query_on query_of view middle_search_at middle_search
   searched h = rw (ne_eqb start goal h)
 
-pub traced_led : (leg : Leg) (goal : ℕ) (areas : SearchAreas) (m : code.SearchEnd) (way : List Road) → Traced (contents leg.sheet) leg.sheet.counts goal areas.came_from.now m way → LedBy leg goal areas m way
-unfolding Traced
-traced_led leg goal areas (S.Found cost n) way h = λ some. h
-traced_led leg goal areas S.Nothing way h = tt
-traced_led leg goal areas S.Full way h = tt
+-- ---- the marks
 
--- ---- once more
+-- no roads lead back from a node to itself
+none_back : (t : Sheet) (c : Counts) (goal : ℕ) (came : List ℕ) → goal < c.n → length came ≡ c.n → WayBack t c goal came 0 []
+unfolding LeadsBack back_way
+none_back t c goal came inside long = record { inside = inside; size = omega arith; few = omega arith; leads = tt; roads = refl }
 
--- what is told of a way with k roads: found, with k roads
-found_again : (f : SearchEnd) (k : ℕ) → 0 < k → length (roads_in f) ≡ k → (cost : Float) × (S.Found cost k ≡ told f)
-unfolding roads_in told
-found_again (found cost way) k some e = (cost, rw e)
-found_again none_found k some e = absurd (omega arith)
-found_again full k some e = absurd (omega arith)
+pub led_there : (areas : SearchAreas) (slots : ℕ) (b : Limits) (start goal : ℕ) (bound : Float) → start ≡ goal → goal < areas.sheet.counts.n → length areas.came_from.now ≡ areas.sheet.counts.n
+    → LedBy goal areas (S.Found f0 0) (roads_in (middle_search_at (contents areas.sheet) slots b start goal bound))
+unfolding middle_search_at middle_search roads_in Traced
+led_there areas slots b start goal bound h inside long = rw (eq-eqb start goal h) (none_back (contents areas.sheet) areas.sheet.counts goal areas.came_from.now inside long)
 
--- so the marks lead back over the middle
-pub led_again : (leg : Leg) (search : MiddleSearch) (areas : SearchAreas) (m : Middle) (r : code.SearchEnd) → 0 < m.count → length (roads_in (search m.start m.goal m.bound)) ≡ m.count
-    → r ≡ told (search m.start m.goal m.bound) → LedBy leg m.goal areas r (roads_in (search m.start m.goal m.bound)) → Led leg search areas m
+-- once more: the marks lead back over the k roads found; where there are none, whatever the search tells
+found_again : (areas : SearchAreas) (goal : ℕ) (f : SearchEnd) (k : ℕ) → goal < areas.sheet.counts.n → length areas.came_from.now ≡ areas.sheet.counts.n → length (roads_in f) ≡ k
+    → LedBy goal areas (told f) (roads_in f) → WayBack (contents areas.sheet) areas.sheet.counts goal areas.came_from.now k (roads_in f)
+unfolding roads_in told Traced
+found_again areas goal (found cost way) k inside long is led = rw is at led
+found_again areas goal none_found k inside long is led = rw is at (none_back (contents areas.sheet) areas.sheet.counts goal areas.came_from.now inside long)
+found_again areas goal full k inside long is led = rw is at (none_back (contents areas.sheet) areas.sheet.counts goal areas.came_from.now inside long)
+
+pub led_again : (search : MiddleSearch) (areas : SearchAreas) (m : Middle) (r : code.SearchEnd) → m.goal < areas.sheet.counts.n → length areas.came_from.now ≡ areas.sheet.counts.n → length (roads_in (search m.start m.goal m.bound)) ≡ m.count
+    → r ≡ told (search m.start m.goal m.bound) → LedBy m.goal areas r (roads_in (search m.start m.goal m.bound)) → Led search areas (Some m)
 unfolding middle_in
-led_again leg search areas m r some long is led = λ some.
-    let f = search m.start m.goal m.bound in
-    let next = found_again f m.count some long in
-    let way = subst (λ (x : code.SearchEnd). LedBy leg m.goal areas x (roads_in f)) (is ∙ sym next.1) led some in
-    subst (WayBack (contents leg.sheet) leg.sheet.counts m.goal areas.came_from.now m.count) (sym (take_all m.count (roads_in f) (omega arith))) way
+led_again search areas m r inside long count is led = found_again areas m.goal (search m.start m.goal m.bound) m.count inside long count (rw is at led)

@@ -1,5 +1,5 @@
 -- What a leg's answers stand for in the definition, and what its areas hold.
-use Rattle.std.specs.Prelude.{ℕ, ◌<◌, List, Option, Result, Ok, Err}
+use Rattle.std.specs.Prelude.{ℕ, List, Option, IfSome, Result, Ok, Err}
 use Rattle.model.specs.declared.Road.{Road}
 use Rattle.model.specs.declared.Limits.{Limits}
 use Rattle.model.specs.Lists.{filter}
@@ -17,9 +17,8 @@ use Rattle.rules.specs.Code.{with_middle, middle_in}
 use Rattle.pair_plans.specs.Turns.{turn_of}
 use Rattle.search.specs.declared.HeapFull.{HeapFull}
 use Rattle.search.specs.declared.SearchEnd.{SearchEnd}
-use Rattle.search.specs.declared.SearchEnd.TheVariants as E
 use Rattle.search.specs.declared.areas.SearchAreas.{SearchAreas}
-use Rattle.search.specs.Answers.{WayBack}
+use Rattle.search.specs.Answers.{WayBack, Traced}
 use Rattle.legs.specs.declared.Leg.{Leg}
 use Rattle.legs.specs.declared.LegError.{LegError}
 use Rattle.legs.specs.declared.LegError.TheVariants as L
@@ -36,7 +35,7 @@ middle_search_at t slots limits = middle_search (view t) (bounded_astar slots) (
 
 -- with as many entries as the areas have slots
 abbrev pub search_of : Leg → SearchAreas → MiddleSearch
-search_of leg areas = middle_search_at (contents leg.sheet) areas.slots leg.limits
+search_of leg areas = middle_search_at (contents areas.sheet) areas.slots leg.limits
 
 -- ---- the answers
 
@@ -51,12 +50,10 @@ leg_end_of search (Err L.HeapFull) = heap_full
 
 -- ---- the roads, by the marks
 
--- the marks lead back over a way that has roads
-abbrev pub LedBy : Leg → ℕ → SearchAreas → SearchEnd → List Road → Type 0
-LedBy leg goal areas (E.Found cost n) way = 0 < n → WayBack (contents leg.sheet) leg.sheet.counts goal areas.came_from.now n way
-LedBy leg goal areas E.Nothing way = Unit {0}
-LedBy leg goal areas E.Full way = Unit {0}
+-- the marks lead back over a way, where it was found
+abbrev pub LedBy : ℕ → SearchAreas → SearchEnd → List Road → Type 0
+LedBy goal areas m way = Traced (contents areas.sheet) areas.sheet.counts goal areas.came_from.now m way
 
--- and over the middle of a route
-abbrev pub Led : Leg → MiddleSearch → SearchAreas → Middle → Type 0
-Led leg search areas m = 0 < m.count → WayBack (contents leg.sheet) leg.sheet.counts m.goal areas.came_from.now m.count (middle_in search m)
+-- and over the middle of a route, if it has one
+abbrev pub Led : MiddleSearch → SearchAreas → Option Middle → Type 0
+Led search areas middle = IfSome middle (λ m. WayBack (contents areas.sheet) areas.sheet.counts m.goal areas.came_from.now m.count (middle_in search middle))

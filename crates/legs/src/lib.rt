@@ -11,18 +11,16 @@ use model::Limits;
 use rules::{PathResult, same_edge};
 use search::HeapFull;
 use search::areas::SearchAreas;
-use sheet::Sheet;
 
-// A leg over a sheet, with what it accepts. Its penalties are amounts, so that labels never fall along a way.
+// A leg, by what it accepts. Its penalties are amounts, so that labels never fall along a way.
 #[derive(Clone, Copy)]
-pub struct Leg<'a> {
-    pub sheet: Sheet<'a>,
+pub struct Leg {
     pub limits: Limits,
     ghost priced: { Amount limits.constraints.slip_road_cost_penalty × Amount limits.constraints.access_road_cost_penalty },
 }
 
 // Why a leg has no path.
-#[derive(Clone, Copy)]
+#[derive(Clone, Copy, PartialEq, Eq, Debug)]
 pub enum LegError {
     NoPath,
     HeapFull,
@@ -39,7 +37,7 @@ impl From<HeapFull> for LegError {
     }
 }
 
-impl Leg<'_> {
+impl Leg {
     ghost use Rattle.std.specs.Prelude.{◌≡◌, IfOk};
     ghost use Rattle.model.specs.Legs.{find_best_path};
     ghost use Rattle.sheet.specs.Contents.{contents};
@@ -48,6 +46,7 @@ impl Leg<'_> {
     ghost use Rattle.legs.specs.Found.{search_of, leg_end_of, Led};
 
     // The leg's best route from its starts to its ends. A solution on one road wins outright; else the pairs decide, and the winning pair is searched once more, so that the marks lead back over its roads.
+    // Both lists and `CandidatesReady` stand here and in what this calls, no plainer otherwise: it is about the sheet too, which the areas have, so a struct of all three would be made for one call.
     #[tactic(auto, using(crate::proofs::Ending::outright, crate::proofs::Ending::by_pairs, rules::proofs::Alone::best_alone), unfolding(model::specs::Legs::next_pair, model::specs::Legs::leg_end))]
     pub fn find_best_path(
         &self,
@@ -55,17 +54,18 @@ impl Leg<'_> {
         ends: &[Candidate],
         areas: &mut SearchAreas<'_>,
     ) -> Result<PathResult, LegError>
-        requires ready { CandidatesReady self.now.sheet.counts starts.now × CandidatesReady self.now.sheet.counts ends.now }
-        requires room { areas.old.nodes ≡ self.now.sheet.counts.n }
+        requires ready { CandidatesReady areas.old.sheet.counts starts.now × CandidatesReady areas.old.sheet.counts ends.now }
         ensures same_room { SameRoom areas.old areas.new }
         ensures means { leg_end_of (search_of self.now areas.old) result
-            ≡ find_best_path self.now.limits (search_of self.now areas.old) (held (contents self.now.sheet) starts.now) (held (contents self.now.sheet) ends.now) }
-        ensures led { IfOk result (λ route. Led self.now (search_of self.now areas.old) areas.new route.middle) }
+            ≡ find_best_path self.now.limits (search_of self.now areas.old) (held (contents areas.old.sheet) starts.now) (held (contents areas.old.sheet) ends.now) }
+        ensures led { IfOk result (λ route. Led (search_of self.now areas.old) areas.new route.middle) }
     {
-        let single = same_edge::try_same_edge_solution(&self.sheet, self.limits, starts, ends);
+        let sheet = areas.sheet;
+        let single = same_edge::try_same_edge_solution(&sheet, self.limits, starts, ends);
         if let Some(best) = single {
             return Ok(best.path);
         }
+        // Tried by `ok_or`, and the proof did not close.
         let Some(best) = self.try_pairs(starts, ends, areas)? else {
             return Err(LegError::NoPath);
         };

@@ -7,7 +7,7 @@ use rules::{Pair, Scored, routes};
 use search::HeapFull;
 use search::areas::SearchAreas;
 
-impl Leg<'_> {
+impl Leg {
     ghost use Rattle.std.specs.Prelude.{◌≡◌, ◌<◌, IfOk};
     ghost use Rattle.std.proofs.Math.Option.{none};
     ghost use Rattle.model.specs.Lists.{sort};
@@ -20,22 +20,22 @@ impl Leg<'_> {
     ghost use Rattle.legs.specs.Found.{search_of, end_after_pairs};
 
     // The best so far after one pair: by its plan, and by a search if it needs one.
-    #[tactic(auto, unfolding(model::specs::Legs::try_pair, model::specs::Legs::after_pair, model::specs::Legs::middle_of))]
+    #[tactic(auto, unfolding(model::specs::Legs::try_pair, model::specs::Legs::after_pair))]
     pub fn try_pair(
         &self,
-        start: &Candidate,
-        end: &Candidate,
+        start: Candidate,
+        end: Candidate,
         best: Option<Scored>,
         areas: &mut SearchAreas<'_>,
     ) -> Result<Option<Scored>, HeapFull>
-        requires roads { (start.now.edge_idx < self.now.sheet.counts.e) × (end.now.edge_idx < self.now.sheet.counts.e) }
-        requires room { areas.old.nodes ≡ self.now.sheet.counts.n }
+        requires roads { (start.edge_idx < areas.old.sheet.counts.e) × (end.edge_idx < areas.old.sheet.counts.e) }
         ensures same_room { SameRoom areas.old areas.new }
         ensures means { turn_of (search_of self.now areas.old) result
-            ≡ try_pair self.now.limits (search_of self.now areas.old) (best_of (search_of self.now areas.old) best) (pair (at_road (contents self.now.sheet) start.now) (at_road (contents self.now.sheet) end.now)) }
-        ensures remembers { Remembers (search_of self.now areas.old) self.now.sheet.counts.n best → IfOk result (Remembers (search_of self.now areas.old) self.now.sheet.counts.n) }
+            ≡ try_pair self.now.limits (search_of self.now areas.old) (best_of (search_of self.now areas.old) best) (pair (at_road (contents areas.old.sheet) start) (at_road (contents areas.old.sheet) end)) }
+        ensures remembers { Remembers (search_of self.now areas.old) areas.old.sheet.counts.n best → IfOk result (Remembers (search_of self.now areas.old) areas.old.sheet.counts.n) }
     {
-        let pair = Pair::new(&self.sheet, start, end);
+        let sheet = areas.sheet;
+        let pair = Pair::new(&sheet, start, end);
         match turns::plan_pair(self.limits, &pair) {
             PairPlan::Skip => Ok(best),
             PairPlan::SameEdge(way) => Ok(routes::improve(best, way)),
@@ -49,25 +49,25 @@ impl Leg<'_> {
     }
 
     // The best after the pairs in the order of their sums, until one cannot win or the heap is used up.
-    #[tactic(auto, using(crate::proofs::Going::all_tried, candidates::proofs::Inserting::length_sort), unfolding(model::specs::Legs::next_pair))]
+    #[tactic(auto, using(crate::proofs::Going::all_tried, pairs::proofs::NextHeld::none_held, pairs::proofs::NextHeld::next_held, candidates::proofs::Inserting::length_sort), unfolding(model::specs::Legs::next_pair))]
     pub fn try_pairs(
         &self,
         starts: &[Candidate],
         ends: &[Candidate],
         areas: &mut SearchAreas<'_>,
     ) -> Result<Option<Scored>, HeapFull>
-        requires ready { CandidatesReady self.now.sheet.counts starts.now × CandidatesReady self.now.sheet.counts ends.now }
-        requires room { areas.old.nodes ≡ self.now.sheet.counts.n }
+        requires ready { CandidatesReady areas.old.sheet.counts starts.now × CandidatesReady areas.old.sheet.counts ends.now }
         ensures same_room { SameRoom areas.old areas.new }
         ensures means { end_after_pairs (search_of self.now areas.old) result
-            ≡ try_pairs self.now.limits (search_of self.now areas.old) (sort by_sum (pairs (held (contents self.now.sheet) starts.now) (held (contents self.now.sheet) ends.now))) none }
-        ensures remembers { IfOk result (Remembers (search_of self.now areas.old) self.now.sheet.counts.n) }
+            ≡ try_pairs self.now.limits (search_of self.now areas.old) (sort by_sum (pairs (held (contents areas.old.sheet) starts.now) (held (contents areas.old.sheet) ends.now))) none }
+        ensures remembers { IfOk result (Remembers (search_of self.now areas.old) areas.old.sheet.counts.n) }
     {
+        // Of each start how many ends were taken. An array of ten: no heap, fixed memory.
         let mut heads = [0usize; MOST_TRIED];
         let mut best = None;
         while let Some(next) = pairs::next_pair(starts, ends, &mut heads) {
-            let first = &starts[next.start];
-            let last = &ends[next.end];
+            let first = starts[next.start];
+            let last = ends[next.end];
             if routes::best_score(&best) <= first.score + last.score {
                 return Ok(best);
             }

@@ -1,5 +1,5 @@
 -- The legs one after the other: what they leave, and what the definition comes to from the next one on.
-use Rattle.std.proofs.Common.{◌≡◌, ℕ, ◌+◌, ◌*◌, ◌≤◌, ◌<◌, Bool, true, false, cond, eqb, List, [], ◌∷◌, ◌++◌, take, Ok, Err, refl, sym, ap, ◌∙◌, arith, append-nil}
+use Rattle.std.proofs.Common.{◌≡◌, ℕ, ◌+◌, ◌*◌, ◌≤◌, ◌<◌, Bool, true, false, cond, eqb, List, [], ◌∷◌, ◌++◌, take, Ok, refl, sym, ap, ◌∙◌, arith, append-nil}
 use Rattle.std.proofs.Math.Seq.{append_snoc}
 use native.Mathlib.Nat.{mul-le-mul, add-mul}
 use Rattle.std.specs.Float.Ieee.{Float}
@@ -18,7 +18,8 @@ use Rattle.full_path.proofs.Numbers.{append_numbers}
 use Rattle.lines.specs.declared.SegmentInfo.{SegmentInfo}
 use Rattle.lines.specs.declared.WrittenLeg.{WrittenLeg}
 use Rattle.lines.specs.declared.FullPath as code
-use Rattle.lines.specs.Legs.{leg_limits, refusal, segment_as, road_numbers, LegWritten, PathStored, LegsWritten, line_outcome, point_along_line_outcome, no_leg_yet, extended_by}
+use Rattle.lines.specs.Legs.{leg_limits, refusal, leg_end_from, LegInRange, segment_as, road_numbers, LegWritten, PathStored, LegsWritten, line_outcome, point_along_line_outcome, no_leg_yet, extended_by}
+use Rattle.lines.proofs.Ends.{refused_in_range}
 use Rattle.lines.proofs.Sequence.{leg_from, from_leg, line_start, line_step, line_end, point_is}
 
 -- ---- nothing before
@@ -58,6 +59,10 @@ module _ (s : List ℕ) (c : Counts) (slots : ℕ) where
   unfolding segment_of
   segment_is i r g e = e
 
+  -- leg i is refused so, whatever would come next
+  abbrev Refused : ℕ → DecodeError → Type 0
+  Refused i e = (next : PathResult → Outcome) → after_leg i (leg_end_from (sheet_of s c) slots i) next ≡ refusal e
+
   -- ---- the one leg of a point along line
 
   module _ (two : c.p ≡ 2) (ids : List ℕ) (x : Coverages) (none : x.count ≡ 0) (ids₁ : List ℕ) (y : Coverages) where
@@ -80,8 +85,8 @@ module _ (s : List ℕ) (c : Counts) (slots : ℕ) where
           ),
         )
 
-    pub point_refused : (e : DecodeError) → LegWritten (sheet_of s c) c slots 0 PerPass 0 ids x ids₁ y (Err e) → point_along_line_outcome (sheet_of s c) slots ≡ refusal e
-    point_refused e none = point_is s c slots two ∙ none _
+  pub point_refused : c.p ≡ 2 → (e : DecodeError) → Refused 0 e → (point_along_line_outcome (sheet_of s c) slots ≡ refusal e) × LegInRange c e
+  point_refused two e none = (point_is s c slots two ∙ none _, refused_in_range c 0 (omega arith) (leg_end_from (sheet_of s c) slots 0) e none)
 
   -- ---- the legs of a line
 
@@ -137,8 +142,8 @@ module _ (s : List ℕ) (c : Counts) (slots : ℕ) where
             };
           }
 
-      pub line_refused : (e : DecodeError) → LegWritten (sheet_of s c) c slots i PerRoad x.written ids y ids₁ z (Err e) → line_outcome (sheet_of s c) slots ≡ refusal e
-      line_refused e none = sym far.is ∙ line_step s c slots i far.path h ∙ none _
+    pub line_refused : i + 1 < c.p → (e : DecodeError) → Refused i e → (line_outcome (sheet_of s c) slots ≡ refusal e) × LegInRange c e
+    line_refused h e none = (sym far.is ∙ line_step s c slots i far.path h ∙ none _, refused_in_range c i (omega arith) (leg_end_from (sheet_of s c) slots i) e none)
 
     pub line_ends : 0 < c.p → i ≤ c.p → c.p ≤ i + 1 → LegsWritten (sheet_of s c) c (line_outcome (sheet_of s c) slots) ids y (Ok x)
     line_ends some h l =

@@ -1,5 +1,5 @@
 -- What a leg leaves of its route: where its middle stands in the list.
-use Rattle.std.proofs.Common.{◌≡◌, ℕ, ◌+◌, ◌-◌, ◌≤◌, List, ◌++◌, length, take, drop, Option, Some, None, refl, sym, ap, arith, append_assoc, length-append, length-take, length-drop, take-append-drop}
+use Rattle.std.proofs.Common.{◌≡◌, ℕ, ◌+◌, ◌-◌, List, ◌++◌, length, take, drop, Option, Some, None, refl, sym, arith, append_assoc, take-append-drop}
 use Rattle.std.proofs.lemmas.List.{take_at, drop_at, drop-drop}
 use Rattle.std.specs.Option.{is_some}
 use mir.Val.{bool_byte}
@@ -19,16 +19,7 @@ module _ (r : PathResult) (ks ids : List ℕ) (n : ℕ) (ids₁ : List ℕ) (fro
   abbrev d : List ℕ
   d = terminal_numbers r.tail
 
-  long : length (numbers_of r ks) ≡ length a + length ks + length d
-  long = omega (arith, length-append (a ++ ks) d, length-append a ks)
-
-  pub inside : n ≤ length ids₁ → from + length (numbers_of r ks) ≤ length ids₁
-  inside h = let near = put.near in omega (arith, ap length put.roads, length-take (length (numbers_of r ks)) (drop from ids₁), length-drop from ids₁)
-
   module _ (first : ℕ) (at : first ≡ length a) (k : ℕ) (size : length ks ≡ k) where
-    pub middle_inside : n ≤ length ids₁ → from + first + k ≤ length ids₁
-    middle_inside h = omega (arith, long, inside h)
-
     pub middle_there : take (from + first + k - (from + first)) (drop (from + first) ids₁) ≡ ks
     middle_there =
         let rest = drop (length (numbers_of r ks)) (drop from ids₁) in

@@ -1,5 +1,5 @@
 -- A leg's route: what its search finds is what the marks lead back over, and its roads are the sheet's own, since the definition's are.
-use Rattle.std.proofs.Common.{◌≡◌, ℕ, zero, suc, ◌+◌, ◌-◌, ◌<◌, List, [], ◌∷◌, ◌++◌, map, get_or, take, Option, Some, None, Result, Ok, refl, sym, ap, ◌∙◌, subst, inl, inr, arith, zero-add}
+use Rattle.std.proofs.Common.{◌≡◌, ℕ, zero, suc, ◌+◌, ◌-◌, ◌<◌, List, [], ◌∷◌, ◌++◌, map, length, get_or, take, Option, Some, None, Result, Ok, refl, sym, ap, ◌∙◌, subst, inl, inr, arith, zero-add}
 use Rattle.std.proofs.lemmas.List.{get_or_at, take-take}
 use native.Mathlib.Nat.{le_refl}
 use Rattle.std.proofs.Math.ListN.{get_or-append}
@@ -26,6 +26,8 @@ use Rattle.bounds.proofs.PathRoads.{RouteRoads, leg_roads}
 use Rattle.bounds.proofs.EndBound.{own_road}
 use Rattle.bounds.proofs.Legs.{Finds}
 use Rattle.bounds.proofs.Choices.{below_or_not}
+use Rattle.sheet.specs.declared.Sheet as code
+use Rattle.sheet.specs.Contents.{contents}
 use Rattle.candidates.specs.Found.{no_point, candidates_at, tried_at}
 use Rattle.candidates.specs.Points.{candidates_of}
 use Rattle.candidates.proofs.Rules.{candidates_are}
@@ -34,12 +36,13 @@ use Rattle.rules.specs.declared.PathResult.{PathResult}
 use Rattle.rules.specs.declared.TerminalEdge.{TerminalEdge}
 use Rattle.rules.specs.Code.{terminal_of, with_middle, middle_in}
 use Rattle.search.specs.Areas.{back_way, LeadsBack}
-use Rattle.search.specs.Answers.{RoadNumbers, roads_in, WayBack}
+use Rattle.search.specs.declared.areas.SearchAreas.{SearchAreas}
+use Rattle.search.specs.Answers.{RoadNumbers}
 use Rattle.search.proofs.Walks.{back_size}
 use Rattle.legs.specs.declared.LegError.{LegError}
-use Rattle.legs.specs.Found.{middle_search_at, leg_end_of}
-use Rattle.full_path.specs.Left.{path_of, middle_numbers, Walkable, Own, Known}
-use Rattle.lines.specs.Legs.{leg_limits, leg_end_from}
+use Rattle.legs.specs.Found.{middle_search_at, leg_end_of, Led}
+use Rattle.full_path.specs.Left.{path_of, count_of, Own, Known}
+use Rattle.lines.specs.Legs.{leg_limits, leg_end_from, marked_way}
 use Rattle.lines.proofs.Sequence.{leg_from, legs_are}
 
 -- ---- what a leg finds
@@ -58,19 +61,6 @@ priced s c w i e = let formed = well_formed_formed s c w in subst (λ (x : Limit
 same_pairs : (xs ys : List Candidate) → leg_pairs (take 10 xs) (take 10 ys) ≡ leg_pairs xs ys
 same_pairs xs ys = rw (take-take 10 10 xs (le_refl 10), take-take 10 10 ys (le_refl 10))
 
--- the marks lead back over the middle of a route
-abbrev pub LedBack : Sheet → Counts → MiddleSearch → List ℕ → Middle → Type 0
-LedBack t c search came m = 0 < m.count → WayBack t c m.goal came m.count (middle_in search m)
-
--- so its roads are what the search finds
-middle_same : (t : Sheet) (c : Counts) (search : MiddleSearch) (came : List ℕ) (m : Middle) → LedBack t c search came m → map (road_at t) (middle_numbers t came m) ≡ middle_in search m
-unfolding middle_in back_way
-middle_same t c search came m led = go m.count refl led
-  where
-    go : (k : ℕ) → m.count ≡ k → LedBack t c search came m → map (road_at t) (middle_numbers t came m) ≡ take m.count (roads_in (search m.start m.goal m.bound))
-    go zero e h = rw e
-    go (suc k) e h = (h (omega arith)).roads
-
 module _ (t : Sheet) (slots i : ℕ) {b : Limits} {xs ys : List Candidate} (x : Result PathResult LegError) (limits : b ≡ leg_limits t i) (start : xs ≡ tried_at t i) (end : ys ≡ tried_at t (i + 1)) (means : leg_end_of (middle_search_at t slots b) x ≡ find_best_path b (middle_search_at t slots b) xs ys) where
   -- with its limits and its candidates at hand
   pub leg_end_is : leg_end_of (middle_search_at t slots b) x ≡ leg_end_from t slots i
@@ -82,9 +72,9 @@ module _ (t : Sheet) (slots i : ℕ) {b : Limits} {xs ys : List Candidate} (x : 
       ∙ ap (λ (ps : List Pair). else_pairs b search ps (try_same_edge_solution b ps)) (same_pairs (candidates_at t i) (candidates_at t (i + 1)))
       ∙ rw limits
 
-  -- the marks lead back over what its search finds
-  pub route_is : (c : Counts) (came : List ℕ) (r : PathResult) → x ≡ Ok r → LedBack t c (middle_search_at t slots b) came r.middle → best (path_of t r (middle_numbers t came r.middle)) ≡ leg_end_from t slots i
-  route_is c came r found led = ap (λ (l : List Road). best (with_middle r l)) (middle_same t c (middle_search_at t slots b) came r.middle led) ∙ ap (leg_end_of (middle_search_at t slots b)) (sym found) ∙ leg_end_is
+  -- with its roads at hand
+  pub route_is : (r : PathResult) (ks : List ℕ) → x ≡ Ok r → map (road_at t) ks ≡ middle_in (middle_search_at t slots b) r.middle → best (path_of t r ks) ≡ leg_end_from t slots i
+  route_is r ks found roads = ap (λ (l : List Road). best (with_middle r l)) roads ∙ ap (leg_end_of (middle_search_at t slots b)) (sym found) ∙ leg_end_is
 
 -- ---- its roads
 
@@ -100,6 +90,27 @@ back_numbers roads e came (suc k) v h j l =
       | inl p ↦ omega (arith, back_numbers roads e came k u h.1 j p, get_or-append before (get_or came v 0 ∷ []) 0 j (omega (arith, size)))
       | inr p ↦ omega (arith, h.0, get_or_at before (get_or came v 0) [] 0 j (omega (arith, size)))
     ]
+
+-- the roads ks of a route's middle are what its search finds
+pub record MiddleRoads (t : Sheet) (c : Counts) (search : MiddleSearch) (middle : Option Middle) (ks : List ℕ) : Type 0 where
+  pub roads : map (road_at t) ks ≡ middle_in search middle
+  pub count : length ks ≡ count_of middle
+  pub few : length ks < c.n
+  pub numbers : RoadNumbers c.e (length ks) ks
+
+-- so they are where the marks lead back over them
+pub marked_roads : (search : MiddleSearch) (areas : SearchAreas) (middle : Option Middle) → 0 < areas.sheet.counts.n → Led search areas middle → MiddleRoads (contents areas.sheet) areas.sheet.counts search middle (marked_way areas middle)
+unfolding middle_in
+marked_roads search areas None some led = record { roads = refl; count = refl; few = some; numbers = λ j h. absurd (omega arith) }
+marked_roads search areas (Some m) some led =
+    let roads = road_at (contents areas.sheet) in
+    let came = areas.came_from.now in
+    let size = back_size roads came m.count m.goal in
+    record { roads = led.roads; count = size; few = omega (arith, size, led.few); numbers = rw size (back_numbers roads areas.sheet.counts.e came m.count m.goal led.leads) }
+
+module _ (search : MiddleSearch) (areas : SearchAreas) (middle : Option Middle) (led : Led search areas middle) where
+  pub walked : (sheet : code.Sheet) → areas.sheet ≡ sheet → (ks : List ℕ) → ks ≡ marked_way areas middle → 0 < sheet.counts.n → MiddleRoads (contents sheet) sheet.counts search middle ks
+  walked sheet same ks is some = rw (is, ← same) (marked_roads search areas middle (rw (← same) at some) led)
 
 module _ (s : List ℕ) (c : Counts) (w : WellFormed s c) (slots i : ℕ) (h : i + 1 < c.p) where
   abbrev t : Sheet
@@ -127,25 +138,12 @@ module _ (s : List ℕ) (c : Counts) (w : WellFormed s c) (slots i : ℕ) (h : i
   own_terminal (Some p) all = owned p.road (all _ here)
 
   -- a route that the leg finds
-  pub route_known : (r : PathResult) (search : MiddleSearch) (came : List ℕ) → 0 < c.n → best (path_of (sheet_of s c) r (middle_numbers (sheet_of s c) came r.middle)) ≡ leg_end_from (sheet_of s c) slots i → LedBack (sheet_of s c) c search came r.middle
-      → Known (sheet_of s c) c r (middle_numbers (sheet_of s c) came r.middle) × Walkable (sheet_of s c) c came r.middle
-  route_known r search came some is led =
-      let ks = middle_numbers t came r.middle in
-      let size = back_size (road_at t) came r.middle.count r.middle.goal in
-      let roads : RouteRoads (InSheet t) (path_of t r ks) = subst (Finds (RouteRoads (InSheet t))) (sym is) leg_end_roads in (
-        record {
-          few = rw size (few_roads r.middle.count refl led);
-          numbers = rw size (numbers_back r.middle.count refl led);
-          head = own_terminal r.head (λ x m. roads _ (Memᴰ.append_left (terminal_of r.tail) (Memᴰ.append_left (map whole (map (road_at t) ks)) m)));
-          tail = own_terminal r.tail (λ x m. roads _ (Memᴰ.append_right (terminal_of r.head ++ map whole (map (road_at t) ks)) m));
-        },
-        λ one. ((led one).inside, (led one).size, (led one).leads),
-      )
-    where
-      few_roads : (k : ℕ) → r.middle.count ≡ k → LedBack (sheet_of s c) c search came r.middle → r.middle.count < c.n
-      few_roads zero e h = omega arith
-      few_roads (suc k) e h = (h (omega arith)).few
-
-      numbers_back : (k : ℕ) → r.middle.count ≡ k → LedBack (sheet_of s c) c search came r.middle → RoadNumbers c.e r.middle.count (middle_numbers (sheet_of s c) came r.middle)
-      numbers_back zero e h = λ j l. absurd (omega arith)
-      numbers_back (suc k) e h = back_numbers (road_at t) c.e came r.middle.count r.middle.goal (h (omega arith)).leads
+  pub route_known : (r : PathResult) (ks : List ℕ) (search : MiddleSearch) → MiddleRoads (sheet_of s c) c search r.middle ks → best (path_of (sheet_of s c) r ks) ≡ leg_end_from (sheet_of s c) slots i → Known (sheet_of s c) c r ks
+  route_known r ks search middle is =
+      let roads : RouteRoads (InSheet t) (path_of t r ks) = subst (Finds (RouteRoads (InSheet t))) (sym is) leg_end_roads in
+      record {
+        few = middle.few;
+        numbers = middle.numbers;
+        head = own_terminal r.head (λ x m. roads _ (Memᴰ.append_left (terminal_of r.tail) (Memᴰ.append_left (map whole (map (road_at t) ks)) m)));
+        tail = own_terminal r.tail (λ x m. roads _ (Memᴰ.append_right (terminal_of r.head ++ map whole (map (road_at t) ks)) m));
+      }

@@ -1,5 +1,5 @@
 -- What the legs of a reference leave in the lent areas, and what that stands for in the definition.
-use Rattle.std.specs.Prelude.{ℕ, ◌+◌, ◌*◌, ◌≤◌, ◌<◌, ◌≡◌, cond, List, ◌++◌, map, eqb, take, drop, Float, Result, Ok, Err}
+use Rattle.std.specs.Prelude.{ℕ, ◌+◌, ◌*◌, ◌≤◌, ◌<◌, ◌≡◌, cond, List, [], ◌++◌, map, eqb, take, drop, Float, Option, Some, None, IfSome, Result, Ok, Err}
 use Rattle.model.specs.declared.Counts.{Counts}
 use Rattle.model.specs.declared.Road.{Road}
 use Rattle.model.specs.declared.Limits.{Limits}
@@ -8,14 +8,18 @@ use Rattle.model.specs.declared.error.DecodeError.TheVariants as refusals
 use Rattle.model.specs.Refusals.{number_of, place_a, place_b}
 use Rattle.model.specs.Numbers.{◌⊕◌, f0}
 use Rattle.model.specs.Lists.{last}
-use Rattle.model.specs.Sheet.{Sheet}
+use Rattle.model.specs.Sheet.{Sheet, road_at}
 use Rattle.model.specs.View.{limits_of, view}
 use Rattle.model.specs.Search.{bounded_astar}
 use Rattle.model.specs.Legs.{PathResult, LegEnd, best, find_best_path}
 use Rattle.model.specs.Decode.{FullPath, no_path_yet, roads_of, Outcome, refused, with_primary, after_leg, decode_line, decode_point_along_line}
 use Rattle.model.specs.Decode as decode
+use Rattle.sheet.specs.Contents.{contents}
 use Rattle.candidates.specs.Found.{point_at, candidates_at}
 use Rattle.candidates.specs.Points.{candidates_of}
+use Rattle.rules.specs.declared.Middle.{Middle}
+use Rattle.search.specs.declared.areas.SearchAreas.{SearchAreas}
+use Rattle.search.specs.Areas.{back_way, LeadsBack}
 use Rattle.legs.specs.Found.{middle_search_at}
 use Rattle.legs.specs.declared.LegError.{LegError}
 use Rattle.legs.specs.declared.LegError.TheVariants.{NoPath, HeapFull}
@@ -50,6 +54,15 @@ segment_as g = record { length_m = g.length_m; expected_m = g.expected_m; start_
 abbrev pub road_numbers : List Road → List ℕ
 road_numbers rs = map (λ (x : Road). x.number) rs
 
+-- the marks lead back over a route's middle, if it has one
+abbrev pub Traceable : SearchAreas → Option Middle → Type 0
+Traceable areas middle = IfSome middle (λ m. (m.goal < areas.sheet.counts.n) × LeadsBack (road_at (contents areas.sheet)) areas.sheet.counts.e areas.came_from.now m.count m.goal)
+
+-- its roads so
+abbrev pub marked_way : SearchAreas → Option Middle → List ℕ
+marked_way areas None = []
+marked_way areas (Some m) = back_way (road_at (contents areas.sheet)) areas.came_from.now m.count m.goal
+
 -- The route r of a leg, left behind the first n numbers of `ids` and the coverages x: its roads in the list ids₁, its coverages in y, its segment.
 pub record RouteWritten (t : Sheet) (c : Counts) (covering : Covering) (dnp : Float) (n : ℕ) (ids : List ℕ) (x : Coverages) (r : PathResult) (ids₁ : List ℕ) (y : Coverages) (w : WrittenLeg) : Type 0 where
   pub roads : take (n + w.written) ids₁ ≡ take n ids ++ unwritten (last (take n ids)) (road_numbers (roads_of r))
@@ -81,10 +94,15 @@ pub record PathStored (t : Sheet) (e most : ℕ) (k : FullPath) (ids : List ℕ)
   pub few_coverages : y.count ≤ most
   pub below : OnRoads e y
 
+-- a leg without a path is one of the legs, from its point to the next
+abbrev pub LegInRange : Counts → DecodeError → Type 0
+LegInRange c (refusals.NoPath from to) = (from < c.p) × (to ≡ from + 1)
+LegInRange c e = Unit {0}
+
 -- how the legs end that come to the outcome o: with a path, whose primary road decides, or refused
 abbrev pub LegsWritten : Sheet → Counts → Outcome → List ℕ → Coverages → Result code.FullPath DecodeError → Type 0
 LegsWritten t c o ids y (Ok x) = (0 < c.p) × ((k : FullPath) × (o ≡ with_primary c.p k) × PathStored t c.e (c.p * (c.n + 1)) k ids y x)
-LegsWritten t c o ids y (Err e) = o ≡ refusal e
+LegsWritten t c o ids y (Err e) = (o ≡ refusal e) × LegInRange c e
 
 -- what the legs of a line come to, and the one leg of a point along line
 abbrev pub line_outcome : Sheet → ℕ → Outcome

@@ -21,6 +21,7 @@ pub struct WrittenLeg {
 }
 
 // What the legs leave beside their roads and coverages: how many roads they wrote, the sum of their lengths, the first and the last segment.
+// A count beside `ids` (fixed memory): the roads to come go into the room behind those written.
 #[derive(Clone, Copy, Default)]
 pub struct FullPath {
     pub written: usize,

@@ -26,9 +26,9 @@ turn_of search (Err full) = ends heap_full
 abbrev pub way_between : MiddleSearch → Pair → Float → SearchEnd
 way_between search p bound = search p.start.road.target p.end.road.source bound
 
--- a middle that has roads is what its search between two of the nodes finds, all of it
-abbrev pub MiddleRemembers : MiddleSearch → ℕ → Middle → Type 0
-MiddleRemembers search nodes m = 0 < m.count → (m.start < nodes) × (m.goal < nodes) × (length (roads_in (search m.start m.goal m.bound)) ≡ m.count)
+-- a middle is what its search between two of the nodes finds, all of it; no ghost field of a middle, which has no search
+abbrev pub MiddleRemembers : MiddleSearch → ℕ → Option Middle → Type 0
+MiddleRemembers search nodes middle = IfSome middle (λ m. (m.start < nodes) × (m.goal < nodes) × (length (roads_in (search m.start m.goal m.bound)) ≡ m.count))
 
 abbrev pub Remembers : MiddleSearch → ℕ → Option Scored → Type 0
 Remembers search nodes b = IfSome b (λ s. MiddleRemembers search nodes s.path.middle)

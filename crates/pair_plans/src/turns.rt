@@ -45,7 +45,7 @@ fn if_kept(kept: bool, offset: f64) -> f64
 
 // The path over a way of n roads with this cost, as a search within the bound finds it, if its length fits.
 fn scored_over(limits: Limits, pair: &Pair, bound: f64, cost: f64, n: usize) -> Option<Scored>
-    ensures means { (search : MiddleSearch) (way : List Road) → way_between search pair.now bound ≡ found cost way → length way ≡ n → best_of search result ≡ scored_over limits (pair_of pair.now) cost way }
+    ensures means { (search : MiddleSearch) (way : List Road) → way_between search pair.now bound ≡ found cost way → best_of search result ≡ scored_over limits (pair_of pair.now) cost way }
     ensures remembers { (search : MiddleSearch) (nodes : ℕ) → Within nodes pair.now → length (roads_in (way_between search pair.now bound)) ≡ n → Remembers search nodes result }
 {
     let start_part = pair.start.end_offset();
@@ -68,12 +68,12 @@ fn scored_over(limits: Limits, pair: &Pair, bound: f64, cost: f64, n: usize) -> 
                 road: pair.start.road,
                 coverage_m: start_part,
             }),
-            middle: Middle {
+            middle: Some(Middle {
                 start: pair.start.road.target,
                 goal: pair.end.road.source,
                 bound,
                 count: n,
-            },
+            }),
             tail: last_stays.then_some(TerminalEdge {
                 road: pair.end.road,
                 coverage_m: end_part,

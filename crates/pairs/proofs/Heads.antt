@@ -1,19 +1,26 @@
 -- The first start with the least head, one start more at a time.
-use mathlib.Core.Path.{◌≡◌, refl}
+use mathlib.Core.Path.{◌≡◌, refl, sym}
 use Rattle.std.specs.Prelude.{Option, Some, None}
 use mathlib.Core.Bool.{true, false}
-use mathlib.Core.List.{List}
+use mathlib.Core.List.{List, map}
 use Prim.Native.Nat.{ℕ, ◌+◌, ◌<◌, ◌≤◌}
 use native.Mathlib.Omega.{arith}
 use lib.ListN.{length, get_or}
-use lib.Ieee.{Float, lt}
+use lib.Ieee.{Float, binary64, add, lt, nan}
 use borrow.Author.Count.{below_more}
+use Rattle.std.proofs.lemmas.List.{get_or-map}
 use Rattle.bounds.proofs.Rank.{rank}
 use Rattle.candidates.proofs.Ranked.{below_rank, not_below_rank, rank_below, rank_not_below}
-use Rattle.candidates.specs.declared.candidate.Candidate as code
 use Rattle.pairs.specs.Left.{head_sum, Open, HeadAmounts, LeastOf}
 
-module _ (starts ends : List code.Candidate) (heads : List ℕ) where
+-- the sum of the scores u of start i and v of the end at its head
+module _ {A : Type 0} (score : A → Float) (xs ys : List A) (heads : List ℕ) (i : ℕ) where
+  pub sum_is : (x y : A) (u v : Float) → i < length xs → x ≡ get_or xs i x → (get_or heads i 0 < length ys) × ((d : A) → y ≡ get_or ys (get_or heads i 0) d) → u ≡ score x → v ≡ score y
+      → add binary64 u v ≡ head_sum (map score xs) (map score ys) heads i
+  unfolding head_sum
+  sum_is x y u v h a g b c = rw (b, c, get_or-map score xs i x nan h, get_or-map score ys (get_or heads i 0) y nan g.0, sym a, sym (g.1 y))
+
+module _ (starts ends : List Float) (heads : List ℕ) where
   abbrev sum : ℕ → Float
   sum k = head_sum starts ends heads k
 

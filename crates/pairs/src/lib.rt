@@ -1,10 +1,35 @@
 // The pairs of a leg in the order of their sums, one at a time. The candidates are sorted by score, so the next pair is one of the heads: of each start the first end that is not taken.
 #![tactic(auto)]
 
-ghost use Rattle.std.specs.Prelude.{◌≤◌, length};
+ghost use Rattle.std.specs.Prelude.{◌≡◌, ℕ, ◌<◌, ◌≤◌, map, get_or, length, IfSome, IsSome, Float};
 ghost use Rattle.pairs.specs.Left.{LeastOf, NextOf};
 
 use candidates::candidate::Candidate;
+
+// What has a score: all that the order reads.
+pub trait HasScore {
+    ghost score_of: { Self → Float };
+
+    fn score(&self) -> f64
+        ensures { result ≡ score_of self.now };
+}
+
+// Plain scores will do: the promise of `next_pair` is about scores alone.
+impl HasScore for f64 {
+    ghost score_of = { λ x. x };
+
+    fn score(&self) -> f64 {
+        *self
+    }
+}
+
+impl HasScore for Candidate {
+    ghost score_of = { λ x. x.score };
+
+    fn score(&self) -> f64 {
+        self.score
+    }
+}
 
 // A pair by its start and its end.
 #[derive(Clone, Copy)]
@@ -14,15 +39,14 @@ pub struct Next {
 }
 
 // The start whose head has the least sum, the first if equal, with that sum; none where no start has an end left.
-#[tactic(auto, using(crate::proofs::Heads::least_skip, crate::proofs::Heads::least_first, crate::proofs::Heads::least_lower, crate::proofs::Heads::least_stays), unfolding(crate::specs::Left::head_sum))]
-fn least_head(starts: &[Candidate], ends: &[Candidate], heads: &[usize]) -> Option<(usize, f64)>
+fn least_head<S: HasScore>(starts: &[S], ends: &[S], heads: &[usize]) -> Option<(usize, f64)>
     requires { length starts.now ≤ length heads.now }
-    ensures { LeastOf starts.now ends.now heads.now (length starts.now) result }
+    ensures { LeastOf (map S.score_of starts.now) (map S.score_of ends.now) heads.now (length starts.now) result }
 {
     let mut best = None;
     for (i, start) in starts.iter().enumerate() {
         if let Some(end) = ends.get(heads[i]) {
-            let sum = start.score + end.score;
+            let sum = start.score() + end.score();
             best = match best {
                 Some((_, least)) if !(sum < least) => best,
                 _ => Some((i, sum)),
@@ -33,10 +57,13 @@ fn least_head(starts: &[Candidate], ends: &[Candidate], heads: &[usize]) -> Opti
 }
 
 // The next pair of those that are left; its start's head moves on. None where no pair is left.
+// The heads are a slice of their own: they move on, and the candidates are only read.
 #[tactic(auto, using(crate::proofs::NextLaws::none_left, crate::proofs::NextLaws::next_left))]
-pub fn next_pair(starts: &[Candidate], ends: &[Candidate], heads: &mut [usize]) -> Option<Next>
+pub fn next_pair<S: HasScore>(starts: &[S], ends: &[S], heads: &mut [usize]) -> Option<Next>
     requires { length starts.now ≤ length heads.old }
-    ensures { NextOf starts.now ends.now heads.old heads.new result }
+    ensures within { IfSome result (λ p. (p.start < length starts.now) × (p.end < length ends.now)) }
+    ensures some { (i : ℕ) → i < length starts.now → get_or heads.old i 0 < length ends.now → IsSome result }
+    ensures next { NextOf (map S.score_of starts.now) (map S.score_of ends.now) heads.old heads.new result }
 {
     let (start, _) = least_head(starts, ends, heads)?;
     let end = heads[start];

@@ -1,5 +1,5 @@
 -- What the code's records stand for. The roads between the terminal ones of a path are what its search finds.
-use Rattle.std.specs.Prelude.{◌≡◌, ◌<◌, ℕ, length, get_or, Option, Some, None, List, [], ◌∷◌, ◌++◌, map, take}
+use Rattle.std.specs.Prelude.{◌≡◌, ◌<◌, ℕ, length, get_or, Option, Some, None, List, [], ◌∷◌, ◌++◌, map}
 use Rattle.std.proofs.Math.Option as definition
 use Rattle.model.specs.declared.Counts.{Counts}
 use Rattle.model.specs.declared.Road.{Road}
@@ -23,7 +23,7 @@ placed x = on x.road x.candidate
 abbrev pub pair_of : Pair → legs.Pair
 pair_of p = pair (placed p.start) (placed p.end)
 
--- a way between its roads leads from one of the nodes to one of them
+-- a way between its roads leads from one of the nodes to one of them; no ghost field of a pair, which has no sheet
 abbrev pub Within : ℕ → Pair → Type 0
 Within nodes p = (p.start.road.target < nodes) × (p.end.road.source < nodes)
 
@@ -41,9 +41,10 @@ with_middle r middle = record {
   end_offset_m = r.end_offset_m;
 }
 
--- its search, once more
-unfoldable pub middle_in : MiddleSearch → Middle → List Road
-middle_in search m = take m.count (roads_in (search m.start m.goal m.bound))
+-- its roads between: those of its search, once more
+unfoldable pub middle_in : MiddleSearch → Option Middle → List Road
+middle_in search None = []
+middle_in search (Some m) = roads_in (search m.start m.goal m.bound)
 
 abbrev pub no_search : MiddleSearch
 no_search start goal bound = none_found

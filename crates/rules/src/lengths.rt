@@ -45,7 +45,7 @@ impl Pair {
         self.start.candidate.distance_m < 5.0 && self.end.candidate.distance_m < 5.0
     }
 
-    // The least length; an excellent match has none.
+    // The least length, 0 for an excellent match.
     pub fn effective_min(&self, limits: Limits) -> f64
         ensures { result ≡ effective_min limits (pair_of self.now) }
     {
@@ -76,6 +76,7 @@ impl Pair {
     }
 
     // Whether the way from the start to the end on their road is a path.
+    // No `contains` of a range: it refuses a NaN, and the definition's comparisons do not.
     pub fn fits_same_edge(&self, limits: Limits) -> bool
         ensures { result ≡ fits_same_edge limits (pair_of self.now) }
     {
@@ -106,7 +107,7 @@ impl Pair {
     }
 }
 
-// Whether a leg accepts this length of a path over several roads.
+// Whether a leg accepts this length of a path over several roads. No `contains`, as in `fits_same_edge`.
 pub fn fits_path(limits: Limits, total: f64) -> bool
     ensures { result ≡ fits_path limits total }
 {

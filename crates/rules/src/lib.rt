@@ -24,7 +24,7 @@ pub struct Placed {
     pub road: Road,
 }
 
-// The start and the end of a path.
+// The start and the end of a path. No plainer with the leg's limits in it: the definition's rules take the two side by side, and a leg has one set of limits and many pairs.
 #[derive(Clone, Copy)]
 pub struct Pair {
     pub start: Placed,
@@ -33,18 +33,18 @@ pub struct Pair {
 
 impl Pair {
     // Two candidates on the roads of the sheet.
-    pub fn new(sheet: &Sheet<'_>, start: &Candidate, end: &Candidate) -> Pair
-        requires { (start.now.edge_idx < sheet.now.counts.e) × (end.now.edge_idx < sheet.now.counts.e) }
-        ensures stands { pair_of result ≡ pair (at_road (contents sheet.now) start.now) (at_road (contents sheet.now) end.now) }
+    pub fn new(sheet: &Sheet<'_>, start: Candidate, end: Candidate) -> Pair
+        requires { (start.edge_idx < sheet.now.counts.e) × (end.edge_idx < sheet.now.counts.e) }
+        ensures stands { pair_of result ≡ pair (at_road (contents sheet.now) start) (at_road (contents sheet.now) end) }
         ensures within { Within sheet.now.counts.n result }
     {
         Pair {
             start: Placed {
-                candidate: *start,
+                candidate: start,
                 road: sheet.road(start.edge_idx),
             },
             end: Placed {
-                candidate: *end,
+                candidate: end,
                 road: sheet.road(end.edge_idx),
             },
         }
@@ -67,14 +67,14 @@ pub struct Middle {
     pub count: usize,
 }
 
-// A path: its length and offsets, the first road if it is kept, the roads between, and the last road if it is kept.
+// A path: its length and offsets, the first road if it is kept, the roads between, and the last road if it is kept. A path on one road has none between.
 #[derive(Clone, Copy)]
 pub struct PathResult {
     pub total_length: f64,
     pub start_offset_m: f64,
     pub end_offset_m: f64,
     pub head: Option<TerminalEdge>,
-    pub middle: Middle,
+    pub middle: Option<Middle>,
     pub tail: Option<TerminalEdge>,
 }
 

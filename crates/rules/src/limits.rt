@@ -1,4 +1,4 @@
-// What a leg accepts.
+// What a leg accepts. The DNP stands beside the settings, no plainer in one struct: they are the sheet's, it is a point's.
 #![tactic(auto, unfolding(model::specs::View::max_valid_distance, model::specs::View::min_distance, model::specs::View::max_search_distance, model::specs::View::limits_of))]
 
 ghost use Rattle.std.specs.Prelude.{◌≡◌};

@@ -5,16 +5,8 @@ ghost use Rattle.std.specs.Prelude.{◌≡◌, ◌⊎◌};
 ghost use Rattle.model.specs.Legs.{MiddleSearch, same_edge_scored, best_score, improve, first_or_better};
 ghost use Rattle.rules.specs.Code.{pair_of, best_of, BestIs};
 
-use crate::{Middle, Pair, PathResult, Scored, TerminalEdge};
+use crate::{Pair, PathResult, Scored, TerminalEdge};
 use model::Limits;
-
-// No roads between.
-const NO_MIDDLE: Middle = Middle {
-    start: 0,
-    goal: 0,
-    bound: 0.0,
-    count: 0,
-};
 
 // The path of a pair on the start's road, if its length fits.
 pub fn same_edge_scored(limits: Limits, pair: &Pair) -> Option<Scored>
@@ -37,20 +29,17 @@ pub fn same_edge_scored(limits: Limits, pair: &Pair) -> Option<Scored>
                 road,
                 coverage_m: total,
             }),
-            middle: NO_MIDDLE,
+            middle: None,
             tail: None,
         },
     })
 }
 
-// The score to beat: f64::MAX where there is no path.
+// The score to beat: f64::MAX where there is no path, as in the definition, so that a path has to stay below it too.
 pub fn best_score(best: &Option<Scored>) -> f64
     ensures { (search : MiddleSearch) → result ≡ best_score (best_of search best.now) }
 {
-    match best {
-        Some(s) => s.score,
-        None => f64::MAX,
-    }
+    best.map_or(f64::MAX, |s| s.score)
 }
 
 // The better of the two: the next path takes the place of the best one only on a strictly lower score.

@@ -36,21 +36,21 @@ fn take_close(limits: Limits, best: Option<Scored>, pair: &Pair) -> Option<Score
 }
 
 // The best so far after the pairs of one start. Only an end on the start's road can change it, so roads are read for such a pair alone.
-#[tactic(auto, using(crate::proofs::OneRoad::ends_more), unfolding(model::specs::Lists::fold))]
+#[tactic(auto, unfolding(model::specs::Lists::fold))]
 fn take_ends(
     sheet: &Sheet<'_>,
     limits: Limits,
     best: Option<Scored>,
-    start: &Candidate,
+    start: Candidate,
     ends: &[Candidate],
 ) -> Option<Scored>
-    requires { (start.now.edge_idx < sheet.now.counts.e) × Named sheet.now.counts ends.now }
-    ensures { (search : MiddleSearch) → best_of search result ≡ fold (take_close limits) (best_of search best) (map (pair (at_road (contents sheet.now) start.now)) (map (at_road (contents sheet.now)) ends.now)) }
+    requires { (start.edge_idx < sheet.now.counts.e) × Named sheet.now.counts ends.now }
+    ensures { (search : MiddleSearch) → best_of search result ≡ fold (take_close limits) (best_of search best) (map (pair (at_road (contents sheet.now) start)) (map (at_road (contents sheet.now)) ends.now)) }
 {
     let mut best = best;
     for end in ends {
         if end.edge_idx == start.edge_idx {
-            let pair = Pair::new(sheet, start, end);
+            let pair = Pair::new(sheet, start, *end);
             best = take_close(limits, best, &pair);
         }
     }
@@ -70,7 +70,7 @@ pub fn try_same_edge_solution(
 {
     let mut best = None;
     for start in starts {
-        best = take_ends(sheet, limits, best, start, ends);
+        best = take_ends(sheet, limits, best, *start, ends);
     }
     best
 }

@@ -19,6 +19,7 @@ use Rattle.bounds.proofs.HeapLaws.{length_push}
 use Rattle.bounds.proofs.Turns.{entered_some, entered_none}
 use Rattle.heap.specs.Keys.{key_in}
 use Rattle.std.specs.Prelude.{None}
+use Rattle.sheet.specs.declared.Sheet.{Sheet}
 use Rattle.search.specs.declared.areas.Label.{Label}
 use Rattle.search.specs.declared.areas.SearchAreas.{SearchAreas}
 use Rattle.search.specs.Areas.{unreached, label_of, labels_of, label_as, mark_of, CameByRoad, entries_of, Columns, columns, state_of, grown, Sized, MarkOrRoad, Reached, Proper, AreasKept}
@@ -34,8 +35,12 @@ kept_on f g = record { proper = g.proper; gone = omega (arith, f.gone, g.gone); 
 pub kept_same : {n e slots : ℕ} {a : Columns} → Proper n e slots a → AreasKept n e slots a a
 kept_same ok = record { proper = ok; gone = omega arith; reached = λ v h. h }
 
+-- one sheet has one number of nodes
+pub same_nodes : {a b : Sheet} → a ≡ b → a.counts.n ≡ b.counts.n
+same_nodes is = ap (λ (t : Sheet). t.counts.n) is
+
 -- the lent areas have room
-pub sized : (a : SearchAreas) → Sized a.nodes a.slots (columns a)
+pub sized : (a : SearchAreas) → Sized a.sheet.counts.n a.slots (columns a)
 sized a = record {
   real = omega (arith, a.labels.0);
   penalised = omega (arith, a.labels.1);

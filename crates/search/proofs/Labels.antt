@@ -1,6 +1,6 @@
 -- The labels that the node areas stand for: one of them, after a store, and what a road offers one.
 use Prim.Native.Nat.{ℕ, ◌≤◌, ◌<◌}
-use mathlib.Core.Path.{◌≡◌, refl, sym, ap, ◌∙◌}
+use mathlib.Core.Path.{◌≡◌, refl, sym, ◌∙◌}
 use mathlib.Core.Logic.{inl, inr, ◌≢◌}
 use mathlib.Core.Bool.{Bool, true, false, cond, ◌||◌}
 use mathlib.Core.Option.{Option, none, some}
@@ -82,23 +82,11 @@ mark_reaches e (Some k) by = (λ z. omega arith, inr (inr by.0))
 
 -- ---- what a road offers
 
--- the penalised cost that is there
-module _ (l : Option Label) {there : Maybe Float} (is : cost_of l ≡ there) (g : Float) where
-  pub none_there : there ≡ None → dominated l g ≡ false
-  unfolding dominated
-  none_there h = go l (is ∙ h)
-    where
-      go : (l : Option Label) → cost_of l ≡ None → dominated l g ≡ false
-      go none e = refl
-      go (some l) e = cc
-
-  pub some_there : {y : Float} → there ≡ Some y → dominated l g ≡ (y ≤ᶠ g)
-  unfolding dominated
-  some_there {y} h = go l (is ∙ h)
-    where
-      go : (l : Option Label) → cost_of l ≡ Some y → dominated l g ≡ (y ≤ᶠ g)
-      go none e = cc
-      go (some l) e = ap (λ (x : Float). x ≤ᶠ g) (cc e)
+-- the penalised cost that is there, if there is one, tells whether the label there stays
+pub stays_by : (l : Option Label) {there : Maybe Float} (g : Float) {b : Bool} → cost_of l ≡ there → (there ≡ None → b ≡ false) → ((y : Float) → there ≡ Some y → b ≡ (y ≤ᶠ g)) → dominated l g ≡ b
+unfolding dominated
+stays_by none g is alone other = sym (alone (sym is))
+stays_by (some l) g is alone other = sym (other l.penalised (sym is))
 
 module _ (q : Query) (x : Entry) (ls : List (Option Label)) (r : Road) {real : Float} (real_is : real_of (label_at ls x.node) ≡ real) where
   abbrev b : Float

@@ -3,7 +3,7 @@ use Prim.Native.Nat.{ℕ, zero, suc, ◌+◌, ◌-◌, ◌≤◌, ◌<◌}
 use mathlib.Core.Path.{◌≡◌, refl, sym, ap, ◌∙◌, subst}
 use mathlib.Core.Logic.{inl, inr, ◌≢◌}
 use mathlib.Core.Option.{Option, none, some}
-use mathlib.Core.List.{List, [], ◌∷◌, ◌++◌, map, append-nil}
+use mathlib.Core.List.{List, [], ◌∷◌, ◌++◌, map}
 use native.Mathlib.Omega.{arith}
 use lib.ListN.{length, get_or, set, take, drop, length-append, length-map}
 use lib.Seq.{length-take-le, take-suc, append_snoc, set_at}
@@ -131,9 +131,6 @@ pub record Backed (e : ℕ) (roads : ℕ → Road) (came : List ℕ) (nodes goal
   pub all : back_way roads came n goal ≡ back_way roads came i v ++ walked
 
 module _ (e : ℕ) (roads : ℕ → Road) (came : List ℕ) (nodes goal n : ℕ) where
-  pub back_start : {i : ℕ} → i ≡ n → goal < nodes → LeadsBack roads e came n goal → Backed e roads came nodes goal n [] i goal
-  back_start all h leads = record { inside = h; fewer = omega arith; leads = rw all leads; all = rw all (sym (append-nil (back_way roads came n goal))) }
-
   module _ {walked : List ℕ} {i v : ℕ} (w : Backed e roads came nodes goal n walked i v) where
     pub back_mark : 0 < i → get_or came v 0 < e
     unfolding LeadsBack

@@ -1,6 +1,7 @@
 -- What the lent areas stand for in the definition: the labels of all nodes, the entries made so far, and the heap. What stands behind them has no part.
 use Rattle.std.specs.Prelude.{ℕ, zero, suc, ◌+◌, ◌-◌, ◌≤◌, ◌<◌, ◌≡◌, ◌⊎◌, ◌≢◌, cond, List, [], ◌∷◌, ◌++◌, eqb, length, get_or, set, Float, Option as Maybe, Some, None}
 use Rattle.std.specs.Option.{unwrap_or}
+use Rattle.std.specs.Coded.{×_prop, Unit-prop, le_prop}
 use Rattle.std.proofs.Math.Option.{Option, none, some}
 use Rattle.std.specs.Float.{nan}
 use Rattle.model.specs.declared.Counts.{Counts}
@@ -129,9 +130,9 @@ grown a v l f = record {
   made = a.made + 1;
 }
 
--- The areas are as large as before.
+-- The areas are those of the same sheet, and as large as before. It is of before and after, so no type holds it and contracts say it.
 pub record SameRoom (a b : SearchAreas) : Type 0 where
-  pub nodes : b.nodes ≡ a.nodes
+  pub sheet : b.sheet ≡ a.sheet
   pub slots : b.slots ≡ a.slots
 
 -- ---- what holds of the areas
@@ -170,25 +171,21 @@ pub record AreasKept (n e slots : ℕ) (a b : Columns) : Type 0 where
 
 -- the areas of a search over its sheet
 abbrev pub Ready : Search → SearchAreas → Type 0
-Ready s a = (a.nodes ≡ s.sheet.counts.n) × Proper s.sheet.counts.n s.sheet.counts.e a.slots (columns a)
+Ready s a = (a.sheet ≡ s.sheet) × Proper s.sheet.counts.n s.sheet.counts.e a.slots (columns a)
 
 -- from the areas a to the areas b
 abbrev pub Kept : Search → SearchAreas → SearchAreas → Type 0
 Kept s a b = AreasKept s.sheet.counts.n s.sheet.counts.e a.slots (columns a) (columns b)
 
--- node v is reached
+-- node v is reached: of an entry's node and the areas, so contracts say it
 abbrev pub Labelled : SearchAreas → ℕ → Type 0
-Labelled a v = (v < a.nodes) × Reached (columns a) v
+Labelled a v = (v < a.sheet.counts.n) × Reached (columns a) v
 
 -- ---- what else is lent, with room
 
 -- for the coverages and the roads of all legs
 abbrev pub ListRoom : Counts → List ℕ → List Float → List ℕ → Type 0
 ListRoom c covered coverage ids = (most_entries c.p c.n ≤ length covered) × (most_entries c.p c.n ≤ length coverage) × (most_entries c.p c.n ≤ length ids)
-
--- the same, with both answer lists
-abbrev pub AnswerRoom : Counts → List ℕ → List Float → List ℕ → List Float → Type 0
-AnswerRoom c covered coverage ids lengths = (most_entries c.p c.n ≤ length covered) × (most_entries c.p c.n ≤ length coverage) × (most_entries c.p c.n ≤ length ids) × (most_entries c.p c.n ≤ length lengths)
 
 -- ---- the walk back
 
@@ -213,3 +210,9 @@ back_way roads came (suc k) v = back_way roads came k (roads (get_or came v 0)).
 unfoldable pub LeadsBack : (ℕ → Road) → ℕ → List ℕ → ℕ → ℕ → Type 0
 LeadsBack roads e came zero v = Unit {0}
 LeadsBack roads e came (suc k) v = (get_or came v 0 < e) × LeadsBack roads e came k (roads (get_or came v 0)).source
+
+-- a fact with one proof, so that a `Trace` may hold it
+pub LeadsBack-prop : (roads : ℕ → Road) (e : ℕ) (came : List ℕ) (k v : ℕ) → IsProp (LeadsBack roads e came k v)
+unfolding LeadsBack
+LeadsBack-prop roads e came zero v = Unit-prop
+LeadsBack-prop roads e came (suc k) v = ×_prop le_prop (LeadsBack-prop roads e came k (roads (get_or came v 0)).source)

@@ -1,3 +1,4 @@
 pub mod Query
 pub mod Areas
 pub mod Answers
+pub mod Traces

@@ -11,7 +11,7 @@ use model::Road;
 use road_network::road_class;
 use sheet::Sheet;
 
-// A search over a sheet: what it is asked, and the goal's row, which is found once.
+// A search over a sheet: what it is asked, and the goal's row, which is found once. The sheet is that of the areas; read through them it misses the bar of speed, as in relax.rt.
 #[derive(Clone, Copy)]
 pub struct Search<'a> {
     pub sheet: Sheet<'a>,
@@ -50,6 +50,7 @@ impl<'a> Search<'a> {
     }
 
     // The distance from node v to the goal, from the goal's row; 0 where there is none.
+    #[tactic(auto, using(crate::proofs::Roads::heuristic_at, crate::proofs::Roads::heuristic_missing))]
     pub fn heuristic(&self, v: usize) -> f64
         requires { v < self.now.sheet.counts.n }
         ensures { result ≡ (query_at self.now).heuristic v }
@@ -71,10 +72,8 @@ impl<'a> Search<'a> {
             return None;
         }
         let b = entry.g_score + r.length_m + road_class::penalty(self.query.constraints, r);
-        if let Some(cost) = there {
-            if cost <= b {
-                return None;
-            }
+        if there.is_some_and(|cost| cost <= b) {
+            return None;
         }
         Some(Label {
             real: a,

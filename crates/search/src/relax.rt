@@ -1,4 +1,5 @@
 // One road, and all roads that leave a node.
+// A search and its areas are two, here and in the turns, and `Ready` is of both: as one struct they prove, and miss the bar of speed, heavy sheets take 13 % longer.
 ghost use Rattle.std.specs.Prelude.{◌≡◌, ◌<◌, IfOk};
 ghost use Rattle.model.specs.Sheet.{road_at};
 ghost use Rattle.model.specs.Search.{entered, relax, relax_all};
@@ -20,7 +21,7 @@ fn enter(
     label: Label,
 ) -> Result<(), HeapFull>
     requires ready { Ready search.now areas.old }
-    requires inside { (v < areas.old.nodes) × CameByRoad search.now.sheet.counts.e label.came_from }
+    requires inside { (v < areas.old.sheet.counts.n) × CameByRoad search.now.sheet.counts.e label.came_from }
     ensures same_room { SameRoom areas.old areas.new }
     ensures kept { IfOk result (λ u. Kept search.now areas.old areas.new) }
     ensures state { state_after result (state_at search.now.sheet areas.new)
@@ -44,7 +45,7 @@ fn relax(
 ) -> Result<(), HeapFull>
     requires ready { Ready search.now areas.old }
     requires labelled { Labelled areas.old entry.node }
-    requires road { (r.target < areas.old.nodes) × (r.number < search.now.sheet.counts.e) × (road_at (contents search.now.sheet) r.number ≡ r) }
+    requires road { (r.target < areas.old.sheet.counts.n) × (r.number < search.now.sheet.counts.e) × (road_at (contents search.now.sheet) r.number ≡ r) }
     ensures same_room { SameRoom areas.old areas.new }
     ensures kept { IfOk result (λ u. Kept search.now areas.old areas.new) }
     ensures state { state_after result (state_at search.now.sheet areas.new)

@@ -11,6 +11,7 @@ use crate::costs::Search;
 use crate::relax::relax_all;
 
 // Whether the entry, just taken out of the heap, stands at the goal; else its roads are tried. The goal is tested before the stale test.
+#[tactic(auto, using(crate::proofs::Growth::same_nodes, crate::proofs::Visits::visit_found, crate::proofs::Visits::visit_old, crate::proofs::Visits::visit_on, crate::proofs::Visits::visit_full, crate::proofs::Visits::stopped))]
 fn visit(search: &Search<'_>, areas: &mut SearchAreas<'_>, entry: Entry) -> Result<bool, HeapFull>
     requires ready { Ready search.now areas.old }
     requires labelled { Labelled areas.old entry.node }

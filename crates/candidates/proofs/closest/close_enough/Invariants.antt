@@ -2,4 +2,4 @@ use Rattle.candidates.proofs.Pointwise.{SoFar}
 use Rattle.candidates.proofs.closest.close_enough.Given as goal
 
 abbrev pub invariant-loop-i : goal.invariant-loop-i
-invariant-loop-i l = SoFar l.sheet.bytes.now l.sheet.counts l.settings.max_candidate_distance_m l.i l.index l.least
+invariant-loop-i l = SoFar l.sheet.bytes.now l.sheet.counts l.i l.index l.least

@@ -1,11 +1,12 @@
-use Rattle.std.proofs.Common.{◌≡◌, ◌+◌, length}
-use Rattle.model.specs.Lists.{fold}
+use Rattle.std.proofs.Common.{◌≡◌, ◌+◌, ◌≤◌, length}
+use Rattle.std.specs.Iterator.{size}
+use Rattle.model.specs.Layout.{most_measured}
 use Rattle.candidates.specs.Nearest.{least_of}
-use Rattle.candidates.proofs.Distances.{nearer_of}
 use Rattle.candidates.proofs.closest.look.Given as goal
 
 abbrev pub invariant-loop-x : goal.invariant-loop-x
-invariant-loop-x l = record {
-  passing : l.passing + length l.x-iterator ≡ length l.fn.rows;
-  least : fold nearer_of l.least l.x-iterator ≡ least_of l.fn.rows;
+invariant-loop-x g l = record {
+  passing : l.passing ≡ length l.yielded;
+  least : l.least ≡ least_of l.yielded;
+  few : length l.yielded + size (g.I.Iterator.remaining l.x-iterator) ≤ most_measured;
 }

@@ -4,4 +4,4 @@ use Rattle.candidates.proofs.closest.require_close_candidate.Goals as goal
 
 pub returns : goal.returns
 returns c = let s = c.args.sheet.now in
-    c.close_enough.ensures ∙ all_filled s.bytes.now s.counts c.loop-index.index c.loop-index.invariant c.loop-index-test.false (let h = c.if-sheet-eq0.false in omega arith) c.settings-settings.result c.settings-settings.ensures
+    c.close_enough.ensures ∙ all_filled s.bytes.now s.counts c.loop-index.index c.loop-index.invariant c.loop-index-test.false (let h = c.if-sheet-eq0.false in omega arith)

@@ -8,7 +8,3 @@ returns-in-Some-clause-added c = λ t e own below known.
     let k = rw c.in-Some.is at known in
     let more = c.add.ensures.added t e own below k.0 in
     (more.0, more.1 ∙ rw (c.in-Some.is, k.1))
-
-pub returns-in_default-clause-added : goal.returns-in_default-clause-added
-unfolding fold
-returns-in_default-clause-added c = λ t e own below known. (below, rw c.in_default.is)

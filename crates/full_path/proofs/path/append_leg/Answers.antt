@@ -1,12 +1,9 @@
-use Rattle.std.proofs.Common.{◌≡◌, ◌+◌, ◌≤◌, ◌<◌, length, take, drop, arith, rules, ap, sym, ◌∙◌, length-append, length-take-le, take-append-drop}
-use Rattle.sheet.specs.Contents.{contents}
+use Rattle.std.proofs.Common.{◌≡◌, ◌+◌, ◌≤◌, ◌<◌, length, take, arith, ap, sym, ◌∙◌, length-take-le, take-append-drop}
 use Rattle.model.specs.Lists.{last}
-use Rattle.model.specs.Sheet.{road_at}
-use Rattle.search.proofs.Walks.{back_size}
-use Rattle.full_path.specs.Left.{terminal_numbers, middle_numbers, numbers_of, number_as}
+use Rattle.search.specs.Traces.{traced_numbers}
+use Rattle.full_path.specs.Left.{numbers_of, number_as}
 use Rattle.full_path.proofs.Behind.{last_as, one_road, some_before, skipped, kept, appended_here, appended_over}
 use Rattle.full_path.proofs.Writing.{behind, numbers_few}
-use Rattle.full_path.proofs.Numbers.{numbers_are, append_numbers}
 use Rattle.full_path.proofs.path.append_leg.Goals as goal
 use Rattle.full_path.proofs.path.append_leg.Goals.{then-is_some, else-is_some, then-twice, else-twice}
 
@@ -16,10 +13,8 @@ returns c =
     let ids = c.args.ids.now in
     let n = c.args.n in
     let from = c.if-twice.from in
-    let t = contents c.args.sheet.now in
-    let ks = middle_numbers t c.args.came_from.now r.middle in
+    let ks = traced_numbers c.args.middle in
     let ns = numbers_of r ks in
-    let size : length ks ≡ r.middle.count = back_size (road_at t) c.args.came_from.now r.middle.count r.middle.goal in
     let room : n + length ns ≤ length ids = omega (arith, numbers_few r ks) in
     let before : number_as c.copied-last.result ≡ last (take n ids) = ap number_as (c.copied-last.ensures ∙ c.last.ensures.value) ∙ last_as (take n ids) in
     let o = c.copied-last.result in

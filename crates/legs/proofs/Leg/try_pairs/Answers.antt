@@ -5,43 +5,44 @@ use Rattle.sheet.specs.Contents.{contents}
 use Rattle.candidates.specs.Found.{held}
 use Rattle.candidates.proofs.Held.{held_long}
 use Rattle.pairs.proofs.LeftLaws.{left_zeros}
+use Rattle.pairs.proofs.NextHeld.{next_held}
 use Rattle.legs.specs.Found.{search_of}
 use Rattle.legs.proofs.Going.{good_enough, tried}
 use Rattle.legs.proofs.Leg.try_pairs.Goals as goal
 
 pub loop-next-init : goal.loop-next-init
-loop-next-init c = let a = c.args in let t = contents a.self.now.sheet in
+loop-next-init c = let a = c.args in let t = contents a.areas.now.sheet in
     let few : length (held t a.starts.now) ≤ 10 = omega (arith, held_long t a.starts.now) in record {
-      same_room = record { nodes = refl; slots = refl };
+      same_room = record { sheet = refl; slots = refl };
       remembers = tt;
       means = rw (left_zeros (held t a.starts.now) (held t a.ends.now) 10 few);
     }
 
 pub returns-then-best_score-first-clause-means : goal.returns-then-best_score-first-clause-means
 unfolding next_pair
-returns-then-best_score-first-clause-means c = let a = c.args in let t = contents a.self.now.sheet in let p = c.requires.ready in
+returns-then-best_score-first-clause-means c = let a = c.args in let t = contents a.areas.now.sheet in let p = c.requires.ready in
     let search = search_of a.self.now a.areas.now in
-    let next = c.in-Some.ensures.2 t p.0.rising p.1.rising in
+    let next = next_held t a.starts.now a.ends.now _ _ _ c.in-Some.ensures.within c.in-Some.ensures.next p.0.rising p.1.rising in
     good_enough a.self.now.limits search _ _ _ _ next _ c.loop-next.invariant.means (rw (c.best_score.ensures search) at c.if-best_score-first.true)
 
 pub returns-in_err-best-clause-means : goal.returns-in_err-best-clause-means
 unfolding next_pair
-returns-in_err-best-clause-means c = let a = c.args in let t = contents a.self.now.sheet in let p = c.requires.ready in
+returns-in_err-best-clause-means c = let a = c.args in let t = contents a.areas.now.sheet in let p = c.requires.ready in
     let search = search_of a.self.now a.areas.now in
-    let next = c.in-Some.ensures.2 t p.0.rising p.1.rising in
-    let turned = rw c.loop-next.invariant.same_room.slots at c.in_err-best.ensures.means in
+    let next = next_held t a.starts.now a.ends.now _ _ _ c.in-Some.ensures.within c.in-Some.ensures.next p.0.rising p.1.rising in
+    let turned = rw (c.loop-next.invariant.same_room.sheet, c.loop-next.invariant.same_room.slots) at c.in_err-best.ensures.means in
     let full = err_from_is_err_and c.from_residual.result c.from_residual.ensures.1 in
     rw full.1 (tried a.self.now.limits search _ _ _ _ next _ c.loop-next.invariant.means (rw (c.best_score.ensures search) at c.if-best_score-first.false) _ turned)
 
 pub loop-next-preserved : goal.loop-next-preserved
 unfolding next_pair
-loop-next-preserved c = let a = c.args in let t = contents a.self.now.sheet in let p = c.requires.ready in
+loop-next-preserved c = let a = c.args in let t = contents a.areas.now.sheet in let p = c.requires.ready in
     let search = search_of a.self.now a.areas.now in
     let room = c.loop-next.invariant.same_room in
-    let next = c.in-Some.ensures.2 t p.0.rising p.1.rising in
-    let turned = rw room.slots at c.in_ok-best.ensures.means in
-    let there = rw room.slots at c.in_ok-best.ensures.remembers in record {
-      same_room = record { nodes = c.in_ok-best.ensures.same_room.nodes ∙ room.nodes; slots = c.in_ok-best.ensures.same_room.slots ∙ room.slots };
+    let next = next_held t a.starts.now a.ends.now _ _ _ c.in-Some.ensures.within c.in-Some.ensures.next p.0.rising p.1.rising in
+    let turned = rw (room.sheet, room.slots) at c.in_ok-best.ensures.means in
+    let there = rw (room.sheet, room.slots) at c.in_ok-best.ensures.remembers in record {
+      same_room = record { sheet = c.in_ok-best.ensures.same_room.sheet ∙ room.sheet; slots = c.in_ok-best.ensures.same_room.slots ∙ room.slots };
       remembers = there c.loop-next.invariant.remembers;
       means = tried a.self.now.limits search _ _ _ _ next _ c.loop-next.invariant.means (rw (c.best_score.ensures search) at c.if-best_score-first.false) _ turned;
     }

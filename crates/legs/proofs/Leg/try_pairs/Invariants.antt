@@ -13,14 +13,14 @@ use Rattle.legs.proofs.Leg.try_pairs.Given as goal
 
 abbrev pub invariant-loop-next : goal.invariant-loop-next
 invariant-loop-next l =
-    let t = contents l.self.sheet in
+    let t = contents l.initial.areas.sheet in
     let search = search_of l.self l.initial.areas in
     let xs = held t l.starts in
     let ys = held t l.ends in record {
       same_room : SameRoom l.initial.areas l.areas;
-      remembers : Remembers search l.self.sheet.counts.n l.best;
+      remembers : Remembers search l.initial.areas.sheet.counts.n l.best;
       means : try_pairs l.self.limits search (sort by_sum (left xs ys l.heads)) (best_of search l.best) ≡ try_pairs l.self.limits search (sort by_sum (pairs xs ys)) none;
     }
 
 abbrev pub decreases-loop-next : goal.decreases-loop-next
-decreases-loop-next l = length (left (held (contents l.self.sheet) l.starts) (held (contents l.self.sheet) l.ends) l.heads)
+decreases-loop-next l = length (left (held (contents l.initial.areas.sheet) l.starts) (held (contents l.initial.areas.sheet) l.ends) l.heads)

@@ -5,15 +5,15 @@ use Rattle.sheet.specs.Contents.{contents}
 use Rattle.legs.specs.Found.{middle_search_at, leg_end_of}
 use Rattle.lines.specs.Legs.{refusal, refused_leg}
 use Rattle.lines.proofs.Ends.{found_route, no_route, after_none}
-use Rattle.lines.proofs.Owned.{priced, leg_end_is, route_is, route_known}
+use Rattle.lines.proofs.Owned.{priced, leg_end_is, route_is, route_known, walked}
 use Rattle.lines.proofs.leg.walk_leg.Goals as goal
 
 pub invariant_of-leg : goal.invariant_of-leg
-invariant_of-leg c = let sheet = c.args.sheet.now in record { priced = priced sheet.bytes.now sheet.counts sheet.well_formed c.args.i c.leg_limits-limits.ensures }
+invariant_of-leg c = let sheet = c.args.areas.now.sheet in record { priced = priced sheet.bytes.now sheet.counts sheet.well_formed c.args.i c.leg_limits-limits.ensures }
 
 pub returns-in_err-route-clause-written : goal.returns-in_err-route-clause-written
 returns-in_err-route-clause-written c =
-    let t = contents c.args.sheet.now in
+    let t = contents c.args.areas.now.sheet in
     let i = c.args.i in
     let slots = c.args.areas.now.slots in
     let points = c.requires.points in
@@ -27,22 +27,20 @@ returns-in_err-route-clause-written c =
 
 pub leave-requires-clause-known : goal.leave-requires-clause-known
 leave-requires-clause-known c =
-    let sheet = c.args.sheet.now in
-    let i = c.args.i in
-    let slots = c.args.areas.now.slots in
-    let r = c.in_ok-route.route in
+    let sheet = c.args.areas.now.sheet in
     let points = c.requires.points in
     let found = found_route c.find_best_path.result _ _ c.map_err.ensures.cases _ c.in_ok-route.was in
     let led = rw found at c.find_best_path.ensures.led in
-    let is = route_is (contents sheet) slots i c.find_best_path.result c.leg_limits-limits.ensures points.2.are points.3.are c.find_best_path.ensures.means sheet.counts _ r found led in
-    let known = route_known sheet.bytes.now sheet.counts sheet.well_formed slots i points.0 r _ _ points.1 is led in
-    (known.0, known.1, c.requires.room.0)
+    let middle = walked _ c.find_best_path.new.areas _ led sheet c.find_best_path.ensures.same_room.sheet _ c.traced-middle.ensures points.1 in
+    let is = route_is (contents sheet) c.args.areas.now.slots c.args.i c.find_best_path.result c.leg_limits-limits.ensures points.2.are points.3.are c.find_best_path.ensures.means _ _ found middle.roads in
+    (route_known sheet.bytes.now sheet.counts sheet.well_formed c.args.areas.now.slots c.args.i points.0 _ _ _ middle is, middle.count, c.requires.room.0)
 
 pub returns-clause-written : goal.returns-clause-written
 returns-clause-written c =
-    let sheet = c.args.sheet.now in
+    let sheet = c.args.areas.now.sheet in
     let points = c.requires.points in
     let found = found_route c.find_best_path.result _ _ c.map_err.ensures.cases _ c.in_ok-route.was in
     let led = rw found at c.find_best_path.ensures.led in
-    let is = route_is (contents sheet) c.args.areas.now.slots c.args.i c.find_best_path.result c.leg_limits-limits.ensures points.2.are points.3.are c.find_best_path.ensures.means sheet.counts _ c.in_ok-route.route found led in
+    let middle = walked _ c.find_best_path.new.areas _ led sheet c.find_best_path.ensures.same_room.sheet _ c.traced-middle.ensures points.1 in
+    let is = route_is (contents sheet) c.args.areas.now.slots c.args.i c.find_best_path.result c.leg_limits-limits.ensures points.2.are points.3.are c.find_best_path.ensures.means _ _ found middle.roads in
     (_, sym is, rw c.leg_limits-limits.ensures at c.leave.ensures.written)

@@ -9,6 +9,6 @@ abbrev pub invariant-loop-i : goal.invariant-loop-i
 invariant-loop-i l = record {
   same_room : SameRoom l.fn.areas l.areas;
   same_areas : SameAreas l.fn.coverages l.coverages;
-  starts : CandidatesOf (contents l.sheet) l.sheet.counts l.i l.starts;
-  so_far : SoFar l.sheet.bytes.now l.sheet.counts l.fn.areas.slots l.i l.ids l.coverages l.path;
+  starts : CandidatesOf (contents l.fn.areas.sheet) l.fn.areas.sheet.counts l.i l.starts;
+  so_far : SoFar l.fn.areas.sheet.bytes.now l.fn.areas.sheet.counts l.fn.areas.slots l.i l.ids l.coverages l.path;
 }

@@ -8,7 +8,7 @@ use Rattle.rules.proofs.same_edge.take_ends.Goals.{then-end-start, else-end-star
 
 pub loop-end-preserved : goal.loop-end-preserved
 loop-end-preserved c search = let a = c.args in let p = c.requires in let t = contents a.sheet.now in
-    let x = a.start.now in let y = get_or a.ends.now c.loop-end.end-index no_item in
+    let x = a.start in let y = get_or a.ends.now c.loop-end.end-index no_item in
     let so_far = c.loop-end.invariant search in
     let more = ends_more a.limits (at_road t x) (at_road t) (best_of search a.best) a.ends.now c.loop-end.end-index no_item c.loop-end-test.true in
     elim c.if-end-start.branch [

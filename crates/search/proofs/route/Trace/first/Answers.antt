@@ -1,11 +1,8 @@
-use mathlib.Core.List.{[], ◌∷◌}
+use mathlib.Core.List.{◌∷◌}
 use mathlib.Core.Path.{refl}
 use native.Mathlib.Omega.{arith}
-use Rattle.search.proofs.Walks.{back_start, back_mark, back_step, back_end}
-use Rattle.search.proofs.route.first_back.Goals as goal
-
-pub loop-init : goal.loop-init
-loop-init c = ([], back_start _ _ _ _ _ _ (omega arith) c.requires.0 c.requires.2, refl)
+use Rattle.search.proofs.Walks.{back_mark, back_step, back_end}
+use Rattle.search.proofs.route.Trace.first.Goals as goal
 
 pub source-v-requires : goal.source-v-requires
 source-v-requires c = back_mark _ _ _ _ _ _ c.loop.invariant.1 (omega arith)
