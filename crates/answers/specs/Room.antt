@@ -15,10 +15,9 @@ lent_of a l = record { node = a.node; heap = a.heap; coverage = a.coverage; list
 abbrev pub lists : List ℕ → List Float → Lists
 lists ids lengths = record { ids = ids; lengths = lengths }
 
--- the answer as the definition has it: a refusal by its number and places
-unfoldable pub answer_of : Result Match DecodeError → call.Answer
-answer_of (Err e) = refused (number_of e) (place_a e) (place_b e)
-answer_of (Ok m) = matched record {
+-- a match as the definition has it
+abbrev pub match_of : Match → call.Match
+match_of m = record {
   count = m.count;
   length_m = m.length_m;
   start_offset = m.start_offset;
@@ -28,6 +27,11 @@ answer_of (Ok m) = matched record {
   primary = m.primary;
   coverage = m.coverage;
 }
+
+-- the answer as the definition has it: a refusal by its number and places
+unfoldable pub answer_of : Result Match DecodeError → call.Answer
+answer_of (Err e) = refused (number_of e) (place_a e) (place_b e)
+answer_of (Ok m) = matched (match_of m)
 
 abbrev pub decoded : Result Match DecodeError → List ℕ → List Float → Decoded
 decoded r ids lengths = record { answer = answer_of r; lists = lists ids lengths }

@@ -2,7 +2,7 @@
 #![tactic(auto)]
 
 ghost use Rattle.std.specs.Prelude.{◌≡◌, ℕ, ◌≤◌, ◌<◌, length, get_or, take};
-ghost use Rattle.model.specs.Call.{Lists, written, has_room};
+ghost use Rattle.model.specs.Call.{Lists, written, has_room, most_entries};
 ghost use Rattle.sheet.specs.Contents.{contents};
 ghost use Rattle.answers.specs.Room.{lent_of, lists};
 
@@ -36,19 +36,29 @@ pub struct Match {
 // All that a call returns: a match, or why there is none.
 pub type Answer = Result<Match, DecodeError>;
 
+// The most entries of a path, which refusal 6 asks of the coverage area and of both answer lists.
+pub fn most_entries(points: usize, nodes: usize) -> usize
+    requires { (points ≤ 16) × (nodes ≤ 1024) }
+    ensures { result ≡ most_entries points nodes }
+{
+    let more = nodes + 1;
+    (points + 4) * more
+}
+
 // Refusal 6 does not hold: every area and list is large enough for the sheet's counts.
 #[tactic(auto, unfolding(model::specs::Call::has_room, model::specs::Table::all_of, model::specs::Table::all_after))]
 pub fn has_room(c: Counts, a: Sizes) -> bool
     requires { (c.p ≤ 16) × (c.n ≤ 1024) }
     ensures { (l : Lists) → length l.ids ≡ a.ids → length l.lengths ≡ a.lengths → result ≡ has_room c.p c.n (lent_of a l) }
 {
-    let more = c.n + 1;
-    let most = (c.p + 4) * more;
+    let most = most_entries(c.p, c.n);
     c.n <= a.node && 1 <= a.heap && most <= a.coverage && most <= a.ids && most <= a.lengths
 }
 
-// The numbers of a path, from the answer list to the front of an area of numbers.
-// Written by index, here and below: of what an adapter of `iter_mut` leaves nothing is known.
+// Two slices for the lists of ids and lengths, here and in the crates above (no plainer): the caller lends them apart, the legs write the ids alone, and text only reads both.
+
+// The numbers of a path, from the answer list to the front of an area of numbers. A cast: Rust has no `From` between u64 and usize.
+// Written by index, here and below. By `iter_mut` the proof does not close: of what an adapter of it leaves nothing is known.
 pub fn take_numbers(ids: &[u64], path: &mut [usize])
     requires { length ids.now ≤ length path.old }
     ensures { take (length ids.now) path.new ≡ ids.now }

@@ -23,7 +23,7 @@ pub extern "C" fn hemokatu_version() -> u32
     VERSION
 }
 
-// A refusal's number and its place A; both 0 for a well-formed sheet.
+// A refusal's number and its place A; both 0 for a well-formed sheet. Numbers, as the C interface has no Option or Result.
 #[repr(C)]
 #[derive(Clone, Copy, Default)]
 pub struct Judgement {
@@ -54,7 +54,7 @@ pub struct Sizes {
     pub list: usize,
 }
 
-// What refusal 6 asks for; all 0 for counts above their limits, whose sheets are refused 2.
+// What refusal 6 asks for; all 0, as the C interface has no Option, for counts above their limits, whose sheets are refused 2.
 #[unsafe(no_mangle)]
 pub extern "C" fn hemokatu_sizes(points: usize, nodes: usize) -> Sizes
     ensures { result ≡ sizes_of points nodes }
@@ -62,16 +62,15 @@ pub extern "C" fn hemokatu_sizes(points: usize, nodes: usize) -> Sizes
     if model::MOST_POINTS < points || model::MOST_NODES < nodes {
         return Sizes::default();
     }
-    let more = nodes + 1;
-    let most = (points + 4) * more;
+    let list = answers::most_entries(points, nodes);
     Sizes {
         node: nodes,
         heap_least: 1,
-        list: most,
+        list,
     }
 }
 
-// All that a call answers. Number 0 is a match; a refusal has its number, A and B, and zeros elsewhere.
+// All that a call answers, as the C interface needs it: number 0 is a match; a refusal has its number, A and B, and zeros elsewhere.
 #[repr(C)]
 #[derive(Clone, Copy, Default)]
 pub struct Answered {
@@ -88,7 +87,7 @@ pub struct Answered {
     pub coverage: f64,
 }
 
-// The number of a match. A number, since C hosts read it.
+// The number of a match, for the C interface.
 const MATCHED: usize = 0;
 
 impl From<Answer> for Answered {
@@ -125,6 +124,7 @@ impl From<Answer> for Answered {
 }
 
 // One call, on any bytes and any areas: the answer, and both answer lists afterwards. What stands in the work areas before has no part in either; what stands there afterwards is the program's choice: their lengths stay, and no later call reads it before writing.
+// The slices stand each for itself: the C interface needs it.
 #[unsafe(no_mangle)]
 pub extern "C" fn hemokatu_decode(
     sheet: &[u8],

@@ -1,7 +1,7 @@
 -- What a case expects of the two answer lists after the call.
-use Rattle.std.specs.Prelude.{ℕ, ◌+◌, ◌*◌, ◌<◌, ◌≡◌, true, cond, List, ltb, Float, length, get_or}
+use Rattle.std.specs.Prelude.{ℕ, ◌+◌, ◌*◌, ◌<◌, ◌≡◌, false, cond, List, ltb, Float, length, get_or}
 use Rattle.std.specs.Float.{nan, binary64}
-use Rattle.std.specs.Float.Ieee.{eq, to_bits}
+use Rattle.std.specs.Float.Ieee.{is_nan, to_bits}
 use Rattle.model.specs.Bytes.{u64_at}
 use Rattle.model.specs.Numbers.{bits}
 use Rattle.replay.specs.declared.expected.Expected.{Expected}
@@ -12,11 +12,11 @@ behind e old = cond e.untouched old 0
 
 -- word 0 or 1 of road i, the id or the length, or what stands behind the path
 unfoldable pub word_at : Expected → ℕ → ℕ → ℕ → ℕ
-word_at e i word rest = cond (ltb i e.roads) (u64_at e.file.now (e.place + 56 + 16 * i + 8 * word)) rest
+word_at e i word rest = cond (ltb i e.roads) (u64_at e.answer.now (56 + 16 * i + 8 * word)) rest
 
 -- x is no NaN and has these bits
 pub record HasBits (x : Float) (n : ℕ) : Type 0 where
-  pub number : eq x x ≡ true
+  pub number : is_nan x ≡ false
   pub is : to_bits binary64 x ≡ n
 
 -- every entry of both lists is as expected

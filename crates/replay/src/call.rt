@@ -7,19 +7,20 @@ use crate::expected::Expected;
 use crate::record::{MOST, Record};
 use answers::Answer;
 
-// What the answer lists hold before the call.
-pub const ID: u64 = 7;
+// What every entry holds before the call, in areas and lists of numbers.
+pub const NUMBER: u64 = 7;
 
-pub const LENGTH: f64 = 7.0;
+// The same in those of floats.
+pub const FLOAT: f64 = 7.0;
 
-// With the work areas.
+// The call on the case's lists, with work areas as long as the record says.
 fn call(record: &Record<'_>, sheet: &[u8], ids: &mut [u64], lengths: &mut [f64]) -> Answer {
-    let mut labels = [LENGTH; 2 * MOST];
+    let mut labels = [FLOAT; 2 * MOST];
     let mut came_from = [7usize; MOST];
-    let mut entries = [LENGTH; 2 * MOST];
+    let mut entries = [FLOAT; 2 * MOST];
     let mut links = [7usize; 2 * MOST];
     let mut covered = [7usize; MOST];
-    let mut coverage = [LENGTH; MOST];
+    let mut coverage = [FLOAT; MOST];
     decoder::decode(
         sheet,
         &mut labels[..record.halves(0)],
@@ -55,8 +56,8 @@ pub fn agrees(record: &Record<'_>) -> bool {
     if !record.sizes_fit() {
         return false;
     }
-    let mut ids = [ID; MOST];
-    let mut lengths = [LENGTH; MOST];
+    let mut ids = [NUMBER; MOST];
+    let mut lengths = [FLOAT; MOST];
     let ids = &mut ids[..record.size(9)];
     let lengths = &mut lengths[..record.size(10)];
     run(record, sheet, &expected, ids, lengths)

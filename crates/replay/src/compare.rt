@@ -1,17 +1,17 @@
 // Answers and lists against what a case expects.
-ghost use Rattle.std.specs.Prelude.{◌≡◌, true, ◌<◌, ◌≤◌};
-ghost use Rattle.replay.specs.Agreeing.{behind, word_at, HasBits, IdsAgree, LengthsAgree, ListsAgree};
+ghost use Rattle.std.specs.Prelude.{◌≡◌, true, ℕ, ◌<◌, ◌≤◌, length, get_or};
+ghost use Rattle.replay.specs.Agreeing.{behind, word_at, HasBits, ListsAgree};
 
-use crate::call::{ID, LENGTH};
+use crate::call::{FLOAT, NUMBER};
 use crate::expected::{Expected, Refusal};
 use answers::{Answer, Match};
 use fields::u64_at;
 
-// Whether x has these bits. The bits of a NaN are unknown, so it never has; only a NaN differs from itself.
+// Whether x has these bits. The bits of a NaN are unknown, so it never has.
 fn has_bits(x: f64, bits: u64) -> bool
     ensures { result ≡ true → HasBits x bits }
 {
-    x == x && f64::to_bits(x) == bits
+    !x.is_nan() && x.to_bits() == bits
 }
 
 impl Expected<'_> {
@@ -19,7 +19,7 @@ impl Expected<'_> {
     fn word(&self, k: usize) -> u64
         requires { k < 7 }
     {
-        u64_at(self.file, self.place + 8 * k)
+        u64_at(self.answer, 8 * k)
     }
 
     fn match_agrees(&self, m: Match) -> bool {
@@ -46,43 +46,40 @@ impl Expected<'_> {
     }
 
     // What a list holds at entry i: word 0 or 1 of road i, the id or the length, or `rest` behind the path.
+    #[tactic(auto, unfolding(crate::specs::Agreeing::word_at))]
     fn word_at(&self, i: usize, word: usize, rest: u64) -> u64
         requires { word ≤ 1 }
         ensures { result ≡ word_at self.now i word rest }
     {
         if i < self.roads {
-            u64_at(self.file, self.place + 56 + 16 * i + 8 * word)
+            u64_at(self.answer, 56 + 16 * i + 8 * word)
         } else {
             rest
         }
     }
 
     // What stands behind the path, or in lists that stay untouched.
+    #[tactic(auto, unfolding(crate::specs::Agreeing::behind))]
     fn behind(&self, old: u64) -> u64
         ensures { result ≡ behind self.now old }
     {
         if self.untouched { old } else { 0 }
     }
 
-    // The lists are compared in two functions: an id as it is, a length by bits that a NaN never has.
-    fn ids_agree(&self, ids: &[u64]) -> bool
-        ensures { result ≡ true → IdsAgree ids.now self.now }
+    // Whether every entry of a list is its word, as `same` compares the two: an id as it is, a length by its bits.
+    fn entries_agree<T: Copy, F: Fn(T, u64) -> bool>(
+        &self,
+        entries: &[T],
+        word: usize,
+        old: u64,
+        same: F,
+    ) -> bool
+        requires { (word ≤ 1) × F.IsAlwaysCallable same }
+        ensures { result ≡ true → (i : ℕ) (d : T) → i < length entries.now → F.post same (get_or entries.now i d) (word_at self.now i word (behind self.now old)) true }
     {
-        let rest = self.behind(ID);
-        for (i, id) in ids.iter().enumerate() {
-            if *id != self.word_at(i, 0, rest) {
-                return false;
-            }
-        }
-        true
-    }
-
-    fn lengths_agree(&self, lengths: &[f64]) -> bool
-        ensures { result ≡ true → LengthsAgree lengths.now self.now }
-    {
-        let rest = self.behind(f64::to_bits(LENGTH));
-        for (i, length) in lengths.iter().enumerate() {
-            if !has_bits(*length, self.word_at(i, 1, rest)) {
+        let rest = self.behind(old);
+        for (i, x) in entries.iter().enumerate() {
+            if !same(*x, self.word_at(i, word, rest)) {
                 return false;
             }
         }
@@ -95,7 +92,7 @@ impl Expected<'_> {
     {
         self.roads <= ids.len()
             && self.roads <= lengths.len()
-            && self.ids_agree(ids)
-            && self.lengths_agree(lengths)
+            && self.entries_agree(ids, 0, NUMBER, |id, word| id == word)
+            && self.entries_agree(lengths, 1, FLOAT.to_bits(), has_bits)
     }
 }

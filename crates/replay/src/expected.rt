@@ -1,10 +1,7 @@
-// What a case expects of the call, and the answer and the answer lists beside it.
-ghost use Rattle.std.specs.Prelude.{◌≡◌, true, ◌+◌, ◌*◌, ◌≤◌, ◌<◌, length};
+// What a case expects of the call: its answer, and what the answer lists hold.
+ghost use Rattle.std.specs.Prelude.{◌+◌, ◌*◌, ◌≤◌, length};
 
-use answers::{Answer, Match};
-use fields::u64_at;
-
-// A refusal's number, A and B.
+// A refusal's number, A and B, as the file has them.
 #[derive(Clone, Copy, PartialEq, Eq)]
 pub struct Refusal {
     pub number: usize,
@@ -12,13 +9,12 @@ pub struct Refusal {
     pub b: usize,
 }
 
-// A refusal, or a match whose answer stands at `place` of the file, with a path of so many roads behind it; and whether the lists stay untouched.
+// A refusal, or a match, of which `answer` has the stored bytes: its answer, and a path of so many roads behind it; and whether the lists stay untouched.
 #[derive(Clone, Copy)]
 pub struct Expected<'a> {
-    pub file: &'a [u8],
-    pub place: usize,
+    pub answer: &'a [u8],
     pub roads: usize,
     pub refusal: Option<Refusal>,
     pub untouched: bool,
-    ghost within: { place + 56 + 16 * roads ≤ length file.now },
+    ghost within: { 56 + 16 * roads ≤ length answer.now },
 }

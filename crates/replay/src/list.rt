@@ -1,5 +1,5 @@
 // The list of cases: u32 their number, a record for each, then the sheets and answers that the records point to. Little-endian.
-ghost use Rattle.std.specs.Prelude.{◌+◌, ◌-◌, ◌*◌, ◌≤◌, length};
+ghost use Rattle.std.specs.Prelude.{◌≡◌, ◌+◌, ◌*◌, ◌≤◌, ◌<◌, length, IfOk};
 
 use crate::call;
 use crate::record::{Record, SIZE};
@@ -7,52 +7,56 @@ use fields::count_at;
 use std::io;
 
 // The cases that were run, and how many of them differ.
-#[derive(Clone, Copy)]
+#[derive(Clone, Copy, Default)]
 pub struct Tally {
-    pub replayed: usize,
+    pub run: usize,
     pub differ: usize,
 }
 
-// The number of cases; 0 where the file does not hold their records.
-fn listed(file: &[u8]) -> usize
-    ensures { result * 52 ≤ length file.now - 4 }
-{
-    if file.len() < 4 {
-        return 0;
-    }
-    let n = count_at(file, 0);
-    if file.len() - 4 < n * SIZE { 0 } else { n }
+// A list whose records the file holds.
+#[derive(Clone, Copy)]
+pub struct Cases<'a> {
+    file: &'a [u8],
+    count: usize,
+    ghost held: { 4 + 52 * count ≤ length file.now },
 }
 
-// Whether the case with number i gives what it expects.
-fn agrees(file: &[u8], i: usize) -> bool
-    requires { 4 + 52 * i + 52 ≤ length file.now }
-{
-    let at = 4 + SIZE * i;
-    call::agrees(&Record { file, at })
-}
-
-// Runs every case, and prints a line for each that differs. A list without cases shows nothing, and counts as one that differs.
-pub fn replay(rt: &impl Print, file: &[u8]) -> io::Result<Tally> {
-    let replayed = listed(file);
-    let mut differ = usize::from(replayed == 0);
-    for i in 0..replayed {
-        if !agrees(file, i) {
-            println!(rt; "case {i} differs")?;
-            differ += 1;
+impl<'a> Cases<'a> {
+    // None where the file does not hold the records of a list.
+    pub fn of(file: &'a [u8]) -> Option<Self> {
+        if file.len() < 4 {
+            return None;
         }
-    }
-    Ok(Tally { replayed, differ })
-}
-
-// Runs cases that expect something wrong.
-pub fn notice(file: &[u8]) -> Tally {
-    let replayed = listed(file);
-    let mut differ = 0;
-    for i in 0..replayed {
-        if !agrees(file, i) {
-            differ += 1;
+        let count = count_at(file, 0);
+        if file.len() - 4 < count * SIZE {
+            return None;
         }
+        Some(Cases { file, count })
     }
-    Tally { replayed, differ }
+
+    // Whether the case with number i gives what it expects.
+    fn agrees(&self, i: usize) -> bool
+        requires { i < self.now.count }
+    {
+        call::agrees(&Record {
+            file: self.file,
+            at: 4 + SIZE * i,
+        })
+    }
+
+    // Runs every case, and tells `differs` the number of each that differs.
+    pub fn run<F: FnMut(usize) -> io::Result<()>>(&self, mut differs: F) -> io::Result<Tally>
+        requires { F.IsAlwaysCallable differs }
+        ensures { IfOk result (λ t. (t.run ≡ self.now.count) × (t.differ ≤ t.run)) }
+    {
+        let mut differ = 0;
+        for i in 0..self.count {
+            if !self.agrees(i) {
+                differs(i)?;
+                differ += 1;
+            }
+        }
+        let run = self.count;
+        Ok(Tally { run, differ })
+    }
 }

@@ -12,7 +12,7 @@ pub const SIZE: usize = 52;
 // The most entries that a case lends of an area.
 pub const MOST: usize = 1024;
 
-// The record that begins at `at`.
+// The record that begins at `at`. A file with a place, here and in list.rt (no plainer as a slice of its own): the records point into the file.
 #[derive(Clone, Copy)]
 pub struct Record<'a> {
     pub file: &'a [u8],
@@ -25,27 +25,21 @@ impl<'a> Record<'a> {
     pub fn sheet(&self) -> Option<&'a [u8]> {
         let start = count_at(self.file, self.at);
         let end = start + count_at(self.file, self.at + 4);
-        if self.file.len() < end {
-            return None;
-        }
-        Some(&self.file[start..end])
+        self.file.get(start..end)
     }
 
     // What the call must answer; none where the answer ends behind the file, or the mark of untouched lists is no mark.
     pub fn expected(&self) -> Option<Expected<'a>> {
         let place = count_at(self.file, self.at + 8);
         let roads = count_at(self.file, self.at + 12);
-        if self.file.len() < place + 56 + 16 * roads {
-            return None;
-        }
+        let answer = self.file.get(place..place + 56 + 16 * roads)?;
         let untouched = match u16_at(self.file, self.at + 50) {
             0 => false,
             1 => true,
             _ => return None,
         };
         Some(Expected {
-            file: self.file,
-            place,
+            answer,
             roads,
             refusal: self.refusal(),
             untouched,
@@ -63,13 +57,19 @@ impl<'a> Record<'a> {
         Some(Refusal { number, a, b })
     }
 
-    // The entries of area k, at most MOST. By its place, as the file has them.
+    // The entries of area k. By its place, as the file has them.
+    fn entries(&self, k: usize) -> usize
+        requires { k < 11 }
+    {
+        usize::from(u16_at(self.file, self.at + 28 + 2 * k))
+    }
+
+    // At most MOST of them.
     pub fn size(&self, k: usize) -> usize
         requires { k < 11 }
         ensures { result ≤ 1024 }
     {
-        let size = usize::from(u16_at(self.file, self.at + 28 + 2 * k));
-        size.min(MOST)
+        self.entries(k).min(MOST)
     }
 
     // The places of an area whose halves are the areas k and k + 1: twice the lesser of their entries.
@@ -82,11 +82,6 @@ impl<'a> Record<'a> {
 
     // Whether every area has at most MOST entries.
     pub fn sizes_fit(&self) -> bool {
-        for k in 0..11 {
-            if MOST < usize::from(u16_at(self.file, self.at + 28 + 2 * k)) {
-                return false;
-            }
-        }
-        true
+        (0..11).all(|k| self.entries(k) <= MOST)
     }
 }

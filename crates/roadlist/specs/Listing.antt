@@ -1,5 +1,5 @@
 -- What the list program prints of the bytes it reads.
-use Rattle.std.specs.Prelude.{ℕ, ◌≤◌, ◌≡◌, cond, List, ltb, length, take, replicate}
+use Rattle.std.specs.Prelude.{ℕ, cond, List, ltb, length, replicate}
 use Rattle.model.specs.Numbers.{f0}
 use Rattle.model.specs.Call.{Lent, decode}
 use Rattle.text.specs.Text.{text_of, large}
@@ -11,9 +11,3 @@ areas = record { node = 64; heap = 128; coverage = 256; lists = record { ids = r
 -- the text of the decoded sheet, if it has at most 48 KiB
 unfoldable pub listing : List ℕ → List ℕ
 listing sheet = cond (ltb 49152 (length sheet)) large (text_of (decode sheet areas))
-
--- the first n bytes of the buffer are the text
-pub record Listed (text buffer : List ℕ) (n : ℕ) : Type 0 where
-  pub within : n ≤ length buffer
-  pub counted : n ≡ length (take n buffer)
-  pub is : take n buffer ≡ text

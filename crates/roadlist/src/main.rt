@@ -1,18 +1,18 @@
 // The list program: reads a sheet from standard input and prints the text of its answer, from one buffer.
 #![tactic(auto)]
 
-ghost use Rattle.std.specs.Prelude.{◌≤◌, length};
+ghost use Rattle.std.specs.Prelude.{◌≡◌, ◌≤◌, length};
 ghost use Rattle.model.specs.Call.{decode};
 ghost use Rattle.text.specs.Text.{text_of};
-ghost use Rattle.roadlist.specs.Listing.{areas, listing, Listed};
+ghost use Rattle.roadlist.specs.Listing.{areas, listing};
 
 use std::io;
 use std::io::{Read, Write};
 
-// The text of one call, with the areas that this program lends.
-fn decode_text(sheet: &[u8], out: &mut [u8]) -> usize
+// The text of one call, with the areas that this program lends, at the front of `out`.
+fn decode_text<'a>(sheet: &[u8], out: &'a mut [u8]) -> &'a [u8]
     requires { 11264 ≤ length out.old }
-    ensures { Listed (text_of (decode sheet.now areas)) out.new result }
+    ensures { result.now ≡ text_of (decode sheet.now areas) }
 {
     let mut labels = [0.0; 128];
     let mut came_from = [0usize; 64];
@@ -33,17 +33,19 @@ fn decode_text(sheet: &[u8], out: &mut [u8]) -> usize
         &mut ids,
         &mut lengths,
     );
-    text::write_text(out, answer, &ids, &lengths).unwrap()
+    let size = text::write_text(out, answer, &ids, &lengths).unwrap();
+    &out[..size]
 }
 
 // Everything that is printed, at the front of `out`.
-fn list(sheet: &[u8], out: &mut [u8]) -> usize
+#[tactic(auto, unfolding(crate::specs::Listing::listing, text::specs::Text::ascii, text::specs::Text::spaced, text::specs::Text::line, text::specs::Text::large))]
+fn list<'a>(sheet: &[u8], out: &'a mut [u8]) -> &'a [u8]
     requires { 11264 ≤ length out.old }
-    ensures { Listed (listing sheet.now) out.new result }
+    ensures { result.now ≡ listing sheet.now }
 {
-    let too_long = 49152 < sheet.len();
-    if too_long {
-        text::write_large(out).unwrap()
+    if 49152 < sheet.len() {
+        let size = text::write_large(out).unwrap();
+        &out[..size]
     } else {
         decode_text(sheet, out)
     }
@@ -54,6 +56,5 @@ fn main(rt: HostRuntime) -> io::Result<()> {
     let mut sheet = Vec::new(rt.alloc());
     rt.stdin().take(49153).read_to_end(&mut sheet)?;
     let mut out = [0u8; 11264];
-    let size = list(&sheet, &mut out);
-    rt.stdout().write_all(&out[..size])
+    rt.stdout().write_all(list(&sheet, &mut out))
 }

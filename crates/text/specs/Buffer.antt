@@ -1,7 +1,5 @@
 -- What is written into a lent buffer.
 use Rattle.std.specs.Prelude.{ℕ, ◌+◌, ◌-◌, ◌^◌, ◌≤◌, ◌≡◌, cond, List, ◌++◌, leb, min, length, take, drop, Option, Some, None}
-use Rattle.model.specs.Call as call
-use Rattle.answers.specs.declared.Match.{Match}
 use Rattle.text.specs.Text.{decimal, bits_of}
 use Rattle.text.specs.declared.parts.Part.{Part}
 use Rattle.text.specs.declared.parts.Part.TheVariants.{Decimal, Bits}
@@ -35,16 +33,3 @@ told text before = cond (leb (length text) (length before)) (Some (length text))
 
 abbrev pub filled : List ℕ → List ℕ → List ℕ
 filled text before = cond (leb (length text) (length before)) (text ++ drop (length text) before) before
-
--- a match as the definition has it
-abbrev pub match_of : Match → call.Match
-match_of m = record {
-  count = m.count;
-  length_m = m.length_m;
-  start_offset = m.start_offset;
-  start_fraction = m.start_fraction;
-  end_offset = m.end_offset;
-  end_fraction = m.end_fraction;
-  primary = m.primary;
-  coverage = m.coverage;
-}

@@ -25,7 +25,7 @@ pub fn write_text(out: &mut [u8], answer: Answer, ids: &[u64], lengths: &[f64]) 
     ensures value { result ≡ told (text (answer_of answer) (lists ids.now lengths.now)) out.old }
     ensures out_after { out.new ≡ filled (text (answer_of answer) (lists ids.now lengths.now)) out.old }
 {
-    // Without a buffer the bytes are counted alone.
+    // Without a buffer the bytes are counted alone. One pass is no plainer: a buffer that is too short stays as it is, so the size has to be known first.
     let size = put_text(&mut [], answer, ids, lengths);
     if size > out.len() {
         return None;
@@ -34,7 +34,7 @@ pub fn write_text(out: &mut [u8], answer: Answer, ids: &[u64], lengths: &[f64]) 
     Some(size)
 }
 
-// Writes the one line of a sheet that is too long for the program.
+// Writes the one line of a sheet that is too long for the program. By itself, not by `Writer` (no plainer): it is one fixed word, with no parts to count.
 #[tactic(auto, unfolding(crate::specs::Text::ascii, crate::specs::Text::spaced, crate::specs::Text::line, crate::specs::Text::large))]
 pub fn write_large(out: &mut [u8]) -> Option<usize>
     ensures value { result ≡ told large out.old }

@@ -1,8 +1,8 @@
 // The parts of the text, written one behind the other into a lent buffer.
-ghost use Rattle.std.specs.Prelude.{◌≡◌, ◌++◌, map};
-ghost use Rattle.answers.specs.Room.{answer_of, lists};
+ghost use Rattle.std.specs.Prelude.{◌++◌, map};
+ghost use Rattle.answers.specs.Room.{answer_of, match_of, lists};
 ghost use Rattle.text.specs.Text.{ascii, spaced, road_lines, path_line, last_lines, refusal_line, text};
-ghost use Rattle.text.specs.Buffer.{Put, part_of, match_of};
+ghost use Rattle.text.specs.Buffer.{Put, part_of};
 ghost use Rattle.model.specs.Refusals.{number_of, place_a, place_b};
 
 use Part::{Bits, Decimal};
@@ -35,7 +35,7 @@ impl Writer<'_> {
         self.at = end;
     }
 
-    // A space and a number. Not by Display: nothing says that a write which has room succeeds.
+    // A space and a number, its digits in an array. By Display the proof does not close: nothing says that a write which has room succeeds.
     fn part(&mut self, part: Part)
         ensures { Put (ascii " " ++ part_of part) self.old self.new }
     {
@@ -76,7 +76,7 @@ impl Writer<'_> {
         self.line(b"primary", &[Decimal(m.primary), Bits(m.coverage)]);
     }
 
-    // A match: the count of its roads, the roads as far as both lists go, and the rest.
+    // A match: the count of its roads, the roads as far as both lists go, and the rest. A cast, here and below: Rust has no `From` between usize and u64.
     fn matched(&mut self, m: Match, ids: &[u64], lengths: &[f64])
         ensures { Put (path_line (match_of m) ++ road_lines m.count ids.now lengths.now ++ last_lines (match_of m)) self.old self.new }
     {

@@ -1,6 +1,7 @@
 use lib.ListN.{length}
+use Rattle.answers.specs.Room.{match_of}
 use Rattle.text.specs.Text.{path_line}
-use Rattle.text.specs.Buffer.{Put, match_of}
+use Rattle.text.specs.Buffer.{Put}
 use Rattle.text.proofs.Lines.{so_far}
 use Rattle.text.proofs.Roads.{road, roads}
 use Rattle.text.proofs.parts.Writer.matched.Given as goal
