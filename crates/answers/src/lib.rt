@@ -10,7 +10,7 @@ use model::Counts;
 use model::error::DecodeError;
 use sheet::Sheet;
 
-// The sizes of the lent areas in entries, each the least of its slices', and of the answer lists.
+// The sizes of the lent areas in entries, each the least of its slices', and of the answer lists: five numbers, since the C interface lends each apart.
 #[derive(Clone, Copy)]
 pub struct Sizes {
     pub node: usize,

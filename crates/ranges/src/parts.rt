@@ -58,7 +58,7 @@ pub fn goals(s: &[u8], base: usize, k: usize, n: usize) -> Result<(), usize>
     run(base, 8 + n * 8, k, |at| records::goal(s, at, n))
 }
 
-// Whether numbers are all below n, with no branch on any of them; a cast, since Rust has no `From` from u32 to usize.
+// Whether numbers are all below n, by the greatest, which for measures misses the bar of speed; a cast, since Rust has no `From` from u32 to usize.
 fn all_below(words: &[[u8; 4]], n: usize) -> bool
     ensures { result ≡ true → All (λ w. from_le_bytes w32 w < n) words.now }
 {

@@ -58,7 +58,7 @@ impl<'a> SearchAreas<'a> {
     ghost use Rattle.sheet.specs.Contents.{contents};
     ghost use Rattle.search.specs.Areas.{columns, grown, state_of, entry_in, cost_there, SameRoom, Proper, LeadsBack};
 
-    // The areas as they are lent: real costs and behind them penalised ones, f-scores and behind them g-scores, the heap's order and behind it the entries' nodes.
+    // The areas as they are lent, four slices since the C interface needs them: real costs and behind them penalised ones, f-scores and behind them g-scores, the heap's order and behind it the entries' nodes.
     pub fn new(
         sheet: Sheet<'a>,
         slots: usize,

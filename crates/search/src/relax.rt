@@ -1,5 +1,5 @@
 // One road, and all roads that leave a node.
-// A search and its areas are two, here and in the turns, and `Ready` is of both: as one struct they prove, and miss the bar of speed, heavy sheets take 13 % longer.
+// A search and its areas are two, here and in the turns, and `Ready` is of both: as one struct they prove, and miss the bar of speed, heavy sheets take 13 % longer. `Labelled` is of an entry's node and the areas, `SameRoom` of before and after: no type holds them.
 ghost use Rattle.std.specs.Prelude.{◌≡◌, ◌<◌, IfOk};
 ghost use Rattle.model.specs.Sheet.{road_at};
 ghost use Rattle.model.specs.Search.{entered, relax, relax_all};
