@@ -8,7 +8,7 @@ use search::HeapFull;
 use search::areas::SearchAreas;
 
 impl Leg {
-    ghost use Rattle.std.specs.Prelude.{◌≡◌, ◌<◌, IfOk};
+    ghost use Rattle.std.specs.Prelude.{◌≡◌, ◌⊎◌, ◌<◌, IfOk};
     ghost use Rattle.std.proofs.Math.Option.{none};
     ghost use Rattle.model.specs.Lists.{sort};
     ghost use Rattle.model.specs.Legs.{pair, pairs, by_sum, try_pair, try_pairs};
@@ -33,6 +33,7 @@ impl Leg {
         ensures means { turn_of (search_of self.now areas.old) result
             ≡ try_pair self.now.limits (search_of self.now areas.old) (best_of (search_of self.now areas.old) best) (pair (at_road (contents areas.old.sheet) start) (at_road (contents areas.old.sheet) end)) }
         ensures remembers { Remembers (search_of self.now areas.old) areas.old.sheet.counts.n best → IfOk result (Remembers (search_of self.now areas.old) areas.old.sheet.counts.n) }
+        ensures own { IfOk result (λ b. (b ≡ best) ⊎ Remembers (search_of self.now areas.old) areas.old.sheet.counts.n b) }
     {
         let sheet = areas.sheet;
         let pair = Pair::new(&sheet, start, end);

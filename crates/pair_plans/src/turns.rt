@@ -1,7 +1,7 @@
 // The turn of one pair, but for its search.
 #![tactic(auto, unfolding(model::specs::Legs::pair_plan, model::specs::Legs::scored_over, model::specs::Legs::path_over, model::specs::Legs::terminal, model::specs::Lists::when, rules::specs::Code::middle_in, search::specs::Answers::roads_in))]
 
-ghost use Rattle.std.specs.Prelude.{◌≡◌, cond, List, ℕ, ◌<◌, length, IfOk};
+ghost use Rattle.std.specs.Prelude.{◌≡◌, ◌⊎◌, cond, List, ℕ, ◌<◌, length, IfOk};
 ghost use Rattle.model.specs.declared.Road.{Road};
 ghost use Rattle.model.specs.Numbers.{f0};
 ghost use Rattle.model.specs.Search.{found};
@@ -95,6 +95,8 @@ pub fn after_search(
         → turn_of search result ≡ after_search limits (pair_of pair.now) (best_of search best) (way_between search pair.now bound) }
     ensures remembers { (search : MiddleSearch) (nodes : ℕ) → Within nodes pair.now → m ≡ told (way_between search pair.now bound)
         → Remembers search nodes best → IfOk result (Remembers search nodes) }
+    ensures own { (search : MiddleSearch) (nodes : ℕ) → Within nodes pair.now → m ≡ told (way_between search pair.now bound)
+        → IfOk result (λ b. (b ≡ best) ⊎ Remembers search nodes b) }
 {
     match m {
         SearchEnd::Found(cost, n) => {
