@@ -1,7 +1,7 @@
 // The list program: reads a sheet from standard input and prints the text of its answer, from one buffer.
 #![tactic(auto)]
 
-ghost use Rattle.std.specs.Prelude.{◌≡◌, ◌≤◌, length};
+ghost use Rattle.std.specs.Prelude.{◌≡◌, ◌≤◌, length, IfOk};
 ghost use Rattle.model.specs.Call.{decode};
 ghost use Rattle.text.specs.Text.{text_of};
 ghost use Rattle.roadlist.specs.Listing.{areas, listing};
@@ -51,10 +51,25 @@ fn list<'a>(sheet: &[u8], out: &'a mut [u8]) -> &'a [u8]
     }
 }
 
+// Reads until `buf` is full or the input ends, and answers how many bytes came: they stand at its front.
+// An array with a count, filled by a `while` (no heap): std's methods that fill a slice do not say how many bytes came, and `read_to_end` asks for memory. A read gives as many bytes as it has.
+fn read_full<R: Read>(from: &mut R, buf: &mut [u8]) -> io::Result<usize>
+    ensures { IfOk result (λ n. n ≤ length buf.new) }
+{
+    let mut done = 0;
+    while done < buf.len() {
+        match from.read(&mut buf[done..])? {
+            0 => break,
+            n => done += n,
+        }
+    }
+    Ok(done)
+}
+
 // 48 KiB are read and one byte more, which shows a larger sheet. The longest text has 11,182 bytes.
 fn main(rt: HostRuntime) -> io::Result<()> {
-    let mut sheet = Vec::new(rt.alloc());
-    rt.stdin().take(49153).read_to_end(&mut sheet)?;
+    let mut sheet = [0u8; 49153];
+    let n = read_full(&mut rt.stdin(), &mut sheet)?;
     let mut out = [0u8; 11264];
-    rt.stdout().write_all(list(&sheet, &mut out))
+    rt.stdout().write_all(list(&sheet[..n], &mut out))
 }
