@@ -52,7 +52,7 @@ fn list<'a>(sheet: &[u8], out: &'a mut [u8]) -> &'a [u8]
 }
 
 // Reads until `buf` is full or the input ends, and answers how many bytes came: they stand at its front.
-// An array with a count, filled by a `while` (no heap): std's methods that fill a slice do not say how many bytes came, and `read_to_end` asks for memory. A read gives as many bytes as it has.
+// An array with a count, filled by a `while` (no heap): `read_to_end` asks for memory, `read_exact` gives no count, and no clause of `io::copy` holds its count within the slice. A read gives as many bytes as it has.
 fn read_full<R: Read>(from: &mut R, buf: &mut [u8]) -> io::Result<usize>
     ensures { IfOk result (λ n. n ≤ length buf.new) }
 {
