@@ -101,7 +101,7 @@ fold_both b (x ∷ xs) p ps =
     let w = fold_both (fmin b x.distance_m) xs one.0 (λ z m. ps z (Memᴰ.tail m)) in
     (w.0, w.1 ∙ ap (λ (n : ℕ). least_from n xs) one.1)
 
-nearest_amount : (xs : List Candidate) → Every Distant xs → Amount (nearest xs)
+pub nearest_amount : (xs : List Candidate) → Every Distant xs → Amount (nearest xs)
 unfolding nearest
 nearest_amount xs ps = (fold_both infinity xs infinity_amount ps).0
 

@@ -6,11 +6,10 @@ use mathlib.Core.Bool.{Bool, true, false, cond, not}
 use mathlib.Core.List.{List, [], ◌∷◌, ◌++◌}
 use native.Mathlib.Nat.{le_refl, le_of_suc-le-suc, zero-lt-suc}
 use native.Mathlib.Omega.{arith}
-use borrow.Rule.Slice.PartMut.{put_mid}
-use lib.ListN.{length, take, drop, get_or, set, drop_of_length-le, length-take, length-drop}
+use lib.ListN.{length, take, drop, get_or, set, replicate, length-set, length-take, length-drop, length-append}
 use lib.Ieee.{lt, le}
-use Rattle.std.proofs.lemmas.List.{drop-take}
-use lib.Seq.{drop-cons, get_or-take, take-take, take_all, length-take-le, take-append-le, take-append-add}
+use Rattle.std.proofs.lemmas.List.{append_assoc, drop-take, drop-drop, drop-replicate, get_or_append_left, get_or_default}
+use lib.Seq.{get_or-take, take-take, take_all, take_at, drop_at, length-take-le, take-append-le, take-append-add}
 use Rattle.model.specs.Lists.{insert, sort, fold}
 use Rattle.model.proofs.Members.{in_getD, in_take, in_insert, Every, every_none, every_cons}
 use Rattle.bounds.specs.Amounts.{Amount}
@@ -20,7 +19,7 @@ use Rattle.std.specs.List as list
 use Rattle.std.proofs.lemmas.List.Sorted.{IsNonDecreasingBy-from_default, IsNonDecreasingBy-insert, IsNonDecreasingBy-take}
 use Rattle.bounds.proofs.Choices.{below_or_not}
 use Rattle.candidates.specs.declared.candidate.Candidate as code
-use Rattle.candidates.specs.Found.{no_item, item_at, lower, Rising}
+use Rattle.candidates.specs.Found.{no_item, nothing, item_at, lower, Rising}
 use Rattle.candidates.proofs.Ranked.{below_rank, not_below_rank, rank_not_below}
 
 module _ {A : Type 0} (below : A → A → Bool) where
@@ -59,7 +58,7 @@ module _ {A : Type 0} (below : A → A → Bool) where
       go false e = ap (λ (zs : List A). y ∷ zs) e
 
   -- x goes behind those that it is not below, before the first that it is below
-  insert_at : (x d : A) (p : ℕ) (xs : List A) → p ≤ length xs → ((k : ℕ) → k < p → below x (get_or xs k d) ≡ false) → (p < length xs → below x (get_or xs p d) ≡ true)
+  pub insert_at : (x d : A) (p : ℕ) (xs : List A) → p ≤ length xs → ((k : ℕ) → k < p → below x (get_or xs k d) ≡ false) → (p < length xs → below x (get_or xs p d) ≡ true)
       → insert below x xs ≡ take p xs ++ (x ∷ drop p xs)
   unfolding insert
   insert_at x d zero [] h f t = refl
@@ -91,21 +90,48 @@ module _ {A : Type 0} where
   abbrev put_at : ℕ → ℕ → A → List A → List A
   put_at p j x xs = take p xs ++ (x ∷ take j (drop p xs))
 
-  -- the last of j + 1 goes to their front
-  last_first : (j : ℕ) (d : A) (xs : List A) → j < length xs → drop j (take (suc j) xs) ++ take j (take (suc j) xs) ≡ get_or xs j d ∷ take j xs
-  last_first j d xs h =
-      let long : length (take (suc j) xs) ≡ suc j = length-take-le (suc j) xs (omega arith) in
-      rw (drop-cons (take (suc j) xs) j d (omega (arith, long)), drop_of_length-le (take (suc j) xs) {i = suc j} (omega (arith, long)), get_or-take (suc j) xs j d (omega arith), take-take j (suc j) xs (omega arith))
+  -- the first `stay` from place p on have moved up by one, into the place behind them
+  abbrev pub moved : ℕ → ℕ → List A → List A
+  moved p stay xs = take (suc p) xs ++ (take (stay - p) (drop p xs) ++ drop (suc stay) xs)
 
-  -- the part from p to p + j turns by one, and x stands at p
-  pub turned : (p j n : ℕ) (x : A) (xs rot : List A) → n ≡ suc (p + j) → p + j < length xs
-      → (let part = take (suc j) (drop p xs) in rot ≡ drop j part ++ take j part) → take n (set (put_mid p (suc j) xs rot) p x) ≡ put_at p j x xs
-  turned zero j n x xs rot e h r =
-      let m : n ≡ suc j = omega arith in
-      rw (m, r ∙ last_first j x xs (omega arith)) (ap (λ (ys : List A). x ∷ ys) (take-append-le j (take j xs) _ (omega (arith, length-take-le j xs (omega arith))) ∙ take-take j j xs (omega arith)))
-  turned (suc p) j n x [] rot e h r = absurd (omega arith)
-  turned (suc p) j (suc n) x (y ∷ xs) rot e h r = ap (λ (ys : List A). y ∷ ys) (turned p j n x xs rot (omega arith) (omega arith) r)
-  turned (suc p) j zero x (y ∷ xs) rot e h r = absurd (omega arith)
+  one_moves : (j k : ℕ) (d : A) (xs rest : List A) → suc j < length xs → set (take (suc (suc j)) xs ++ (take k (drop (suc j) xs) ++ rest)) (suc j) (get_or xs j d) ≡ take (suc j) xs ++ (take (suc k) (drop j xs) ++ rest)
+  one_moves j k d [] rest h = absurd (omega arith)
+  one_moves zero k d (y ∷ []) rest h = absurd (omega arith)
+  one_moves zero k d (y ∷ z ∷ xs) rest h = refl
+  one_moves (suc j) k d (y ∷ xs) rest h = ap (λ (ys : List A). y ∷ ys) (one_moves j k d xs rest (omega arith))
+
+  one_put : (p : ℕ) (x : A) (xs rest : List A) → p < length xs → set (take (suc p) xs ++ rest) p x ≡ take p xs ++ (x ∷ rest)
+  one_put p x [] rest h = absurd (omega arith)
+  one_put zero x (y ∷ xs) rest h = refl
+  one_put (suc p) x (y ∷ xs) rest h = ap (λ (ys : List A). y ∷ ys) (one_put p x xs rest (omega arith))
+
+  module _ (stay : ℕ) (xs : List A) (fit : stay < length xs) where
+    -- the one at j and those in front of it have not moved
+    still : (p j : ℕ) (d : A) → j ≤ p → p ≤ stay → get_or (moved p stay xs) j d ≡ get_or xs j d
+    still p j d h g = get_or_append_left (take (suc p) xs) _ d j (omega (arith, length-take-le (suc p) xs (omega arith))) ∙ get_or-take (suc p) xs j d (omega arith)
+
+    more_moved : (j : ℕ) (d : A) → j < stay → set (moved (suc j) stay xs) (suc j) (get_or xs j d) ≡ moved j stay xs
+    more_moved j d h =
+        let k : stay - j ≡ suc (stay - suc j) = omega arith in
+        rw k (one_moves j (stay - suc j) d xs (drop (suc stay) xs) (omega arith))
+
+    moved_long : (p : ℕ) → p ≤ stay → length (moved p stay xs) ≡ length xs
+    moved_long p h = length-append (take (suc p) xs) _ ∙ rw (length-append (take (stay - p) (drop p xs)) (drop (suc stay) xs))
+        (omega (arith, length-take-le (suc p) xs (omega arith), length-take-le (stay - p) (drop p xs) (omega (arith, length-drop p xs)), length-drop (suc stay) xs))
+
+    -- x in place p
+    module _ (p : ℕ) (x : A) (h : p ≤ stay) where
+      put_is_at : set (moved p stay xs) p x ≡ put_at p (stay - p) x xs ++ drop (suc stay) xs
+      put_is_at = one_put p x xs _ (omega arith) ∙ sym (append_assoc (take p xs) (x ∷ take (stay - p) (drop p xs)) (drop (suc stay) xs))
+
+      put_long : length (put_at p (stay - p) x xs) ≡ suc stay
+      put_long = length-append (take p xs) _ ∙ omega (arith, length-take-le p xs (omega arith), length-take-le (stay - p) (drop p xs) (omega (arith, length-drop p xs)))
+
+      pub put_front : take (suc stay) (set (moved p stay xs) p x) ≡ put_at p (stay - p) x xs
+      put_front = rw put_is_at (take_at (put_at p (stay - p) x xs) _ (suc stay) put_long)
+
+      pub put_back : drop (suc stay) (set (moved p stay xs) p x) ≡ drop (suc stay) xs
+      put_back = rw put_is_at (drop_at (put_at p (stay - p) x xs) _ (suc stay) put_long)
 
   pub take_within : (m n : ℕ) (xs : List A) → take m (take n xs) ≡ take (min m n) xs
   take_within m n xs = ⊎_elim
@@ -188,6 +214,25 @@ module _ (x : code.Candidate) (p : Amount x.score) (xs : List code.Candidate) (r
       let on = ranks_rise xs r i j d le l in
       ap not (rank_not_below x.score a.score p (scored a (in_getD xs i d (omega arith))) (omega arith))
 
+  -- told by the two beside its place
+  pub placed : (i : ℕ) → i ≤ length xs → (0 < i → lt x.score (item_at xs (i - 1)).score ≡ false) → (i < length xs → lt x.score (item_at xs i).score ≡ true) → Placed x xs i
+  placed i h behind above = (front, back)
+    where
+      front : (k : ℕ) (d : code.Candidate) → 0 ≤ k → k < i → in_front x (get_or xs k d) ≡ true
+      front k d z l =
+          let last : in_front x (get_or xs (i - 1) d) ≡ true = rw (get_or_default xs (i - 1) d no_item (omega arith)) (ap not (behind (omega arith))) in
+          parted k (i - 1) d (omega arith) (omega arith) last
+
+      back : (k : ℕ) (d : code.Candidate) → i ≤ k → k < length xs → in_front x (get_or xs k d) ≡ false
+      back k d l g = go (in_front x (get_or xs k d)) refl
+        where
+          next : in_front x (get_or xs i d) ≡ false
+          next = rw (get_or_default xs i d no_item (omega arith)) (ap not (above (omega arith)))
+
+          go : (b : Bool) → in_front x (get_or xs k d) ≡ b → b ≡ false
+          go true e = sym (parted i k d l g e) ∙ next
+          go false e = refl
+
   -- with x behind the first i, of which none is above it and the next one is
   module _ (i : ℕ) (h : i ≤ length xs) (f : Placed x xs i) where
     pub put_is : insert lower x xs ≡ list.insert xs i x
@@ -207,17 +252,79 @@ module _ (x : code.Candidate) (p : Amount x.score) (xs : List code.Candidate) (r
         let all : i ≡ length xs = omega arith in
         rw put_is (sym (take-append-le most (take i xs) _ (omega (arith, length-take-le i xs h)) ∙ take-take most i xs l ∙ take_all most xs m))
 
--- the list in an array of which n places are used, with x put in
-pub put_in : (most n i last : ℕ) (x : code.Candidate) (items rot : List code.Candidate) → Amount x.score → n ≤ length items → Rising (take n items) → i ≤ length (take n items) → i < most → length (take n items) ≤ most → most ≤ length items → last ≡ min n (most - 1)
-    → Placed x (take n items) i
-    → (let part = take (last + 1 - i) (drop i items) in rot ≡ drop (length part - 1) part ++ take (length part - 1) part)
-    → take (last + 1) (set (put_mid i (last + 1 - i) items rot) i x) ≡ take most (insert lower x (take n items))
-put_in most n i last x items rot p fit r h l m big e f t =
-    let long : length (take n items) ≡ n = length-take-le n items fit in
-    let j : ℕ = last - i in
-    let width : last + 1 - i ≡ suc j = omega arith in
-    let part : length (take (suc j) (drop i items)) ≡ suc j = length-take-le (suc j) (drop i items) (omega (arith, length-drop i items)) in
-    let one : length (take (suc j) (drop i items)) - 1 ≡ j = omega arith in
-    let t' = rw (width, one) at t in
-    rw width (turned i j (last + 1) x items rot (omega arith) (omega arith) t')
-    ∙ sym (ap (take most) (put_is x p (take n items) r i h f) ∙ kept_put most n i j x items (omega arith) fit l (omega arith))
+-- ---- in an array of which n places are used
+
+-- x is looked for a place from the back: the first `stay` from place p on are above it, and have moved up by one
+pub record Shifting (x : code.Candidate) (items now : List code.Candidate) (stay p : ℕ) : Type 0 where
+  pub within : p ≤ stay
+  pub are : now ≡ moved p stay items
+  pub ahead : p < stay → lt x.score (item_at items p).score ≡ true
+
+module _ (x : code.Candidate) (items : List code.Candidate) (stay : ℕ) (fit : stay < length items) (now : List code.Candidate) (j p : ℕ) (m : Shifting x items now stay p) (next : p ≡ suc j) where
+  in_front_still : item_at now j ≡ item_at items j
+  in_front_still = let w = m.within in ap (λ (ys : List code.Candidate). item_at ys j) m.are ∙ still stay items fit p j no_item (omega arith) m.within
+
+  pub shifting_more : lt x.score (item_at now j).score ≡ true → Shifting x items (set now (j + 1) (item_at now j)) stay j
+  shifting_more e =
+      let w = m.within in
+      let up : j + 1 ≡ suc j = omega arith in
+      record {
+        within = omega arith;
+        are = rw (in_front_still, m.are, next, up) (more_moved stay items fit j no_item (omega arith));
+        ahead = λ h. rw in_front_still at e;
+      }
+
+-- the first `stay` + 1 are now the list with x put in, cut
+pub record Put (x : code.Candidate) (most n stay : ℕ) (items now : List code.Candidate) : Type 0 where
+  pub are : take (stay + 1) now ≡ take most (insert lower x (take n items))
+  pub rising : Rising (take (stay + 1) now)
+  pub long : length now ≡ length items
+  pub spare : (size : ℕ) → drop n items ≡ replicate (size - n) nothing → drop (stay + 1) now ≡ replicate (size - (stay + 1)) nothing
+
+module _ (x : code.Candidate) (amount : Amount x.score) (most n stay : ℕ) (items : List code.Candidate) (rises : Rising (take n items))
+    (fit : n ≤ length items) (few : length (take n items) ≤ most) (big : most ≤ length items) (room : 0 < most) (stay_is : stay ≡ min n (most - 1)) where
+  abbrev used : List code.Candidate
+  used = take n items
+
+  used_long : length used ≡ n
+  used_long = length-take-le n items fit
+
+  module _ (p : ℕ) (now : List code.Candidate) (m : Shifting x items now stay p)
+      (full : n ≡ most → lt x.score (item_at items stay).score ≡ true) (behind : 0 < p → lt x.score (item_at now (p - 1)).score ≡ false) where
+    before : 0 < p → item_at used (p - 1) ≡ item_at now (p - 1)
+    before g = let w = m.within in get_or-take n items (p - 1) no_item (omega arith)
+        ∙ sym (ap (λ (ys : List code.Candidate). item_at ys (p - 1)) m.are ∙ still stay items (omega arith) p (p - 1) no_item (omega arith) m.within)
+
+    after : p < n → lt x.score (item_at items p).score ≡ true
+    after l = let w = m.within in ⊎_elim m.ahead (λ (k : stay ≤ p). let same : p ≡ stay = omega arith in rw same (full (omega (arith, used_long)))) (below_or_not p stay)
+
+    there : Placed x used p
+    there = let w = m.within in placed x amount used rises p (omega (arith, used_long))
+        (λ g. rw (before g) (behind g)) (λ g. let l : p < n = omega (arith, used_long) in rw (get_or-take n items p no_item l) (after l))
+
+    put_in : take (stay + 1) (set now p x) ≡ take most (insert lower x used)
+    put_in =
+        let w = m.within in
+        let up : stay + 1 ≡ suc stay = omega arith in
+        rw (up, m.are) (put_front stay items (omega arith) p x m.within
+        ∙ sym (ap (take most) (put_is x amount used rises p (omega (arith, used_long)) there) ∙ kept_put most n p (stay - p) x items (omega arith) fit (omega arith) (omega arith)))
+
+    pub put_there : Put x most n stay items (set now p x)
+    put_there = let w = m.within in record {
+      are = put_in;
+      rising = rw put_in (rising_insert x amount used rises p (omega (arith, used_long)) there most);
+      long = length-set now p x ∙ ap length m.are ∙ moved_long stay items (omega arith) p m.within;
+      spare = λ size e.
+          let up : stay + 1 ≡ suc stay = omega arith in
+          let k : n + (suc stay - n) ≡ suc stay = omega (arith, used_long) in
+          let left : size - n - (suc stay - n) ≡ size - suc stay = omega arith in
+          rw (up, m.are) (put_back stay items (omega arith) p x m.within ∙ sym (rw k at (drop-drop (suc stay - n) n items)) ∙ ap (drop (suc stay - n)) e ∙ rw left at (drop-replicate (suc stay - n) (size - n) nothing));
+    }
+
+  -- a full list, whose last is not above x
+  pub left_out : most ≤ n → lt x.score (item_at items stay).score ≡ false → used ≡ take most (insert lower x used)
+  left_out l e =
+      let last : n - 1 ≡ stay = omega (arith, used_long) in
+      let here = placed x amount used rises n (omega (arith, used_long))
+      (λ g. rw (get_or-take n items (n - 1) no_item (omega arith), last) e) (λ g. absurd (omega (arith, used_long))) in
+      put_last x amount used rises n (omega (arith, used_long)) here most l few

@@ -66,6 +66,10 @@ no_candidate = record {
 abbrev pub no_item : code.Candidate
 no_item = by_number no_candidate
 
+-- what stands in a place that is not used
+abbrev pub nothing : code.Candidate
+nothing = record { edge_idx = 0; distance_m = f0; bearing_diff = f0; frc_diff = 0; fow_score = f0; score = f0; projection_fraction = f0 }
+
 abbrev pub item_at : List code.Candidate → ℕ → code.Candidate
 item_at xs k = get_or xs k no_item
 

@@ -22,24 +22,32 @@ const NOTHING: Candidate = Candidate {
 };
 
 // At most N candidates, in the first `count` places: fixed memory, so an array with a count.
-#[derive(Drop)]
+#[derive(Clone, Copy)]
 pub struct Best<const N: usize> {
     count: usize,
     items: [Candidate; N],
 }
 
-// Clauses see them in order: no score is below an earlier one.
+// Clauses see them in order: no score is below an earlier one. The places behind them hold nothing, so the list gives the array back.
 impl<const N: usize> Model for Best<N> {
-    ghost use Rattle.std.specs.Prelude.{◌≤◌, List, take};
+    ghost use Rattle.std.specs.Prelude.{◌≡◌, ◌≤◌, ◌-◌, ◌++◌, List, length, take, drop, replicate};
     ghost use Rattle.candidates.specs.declared.candidate.Candidate as code;
 
     ghost Value = { List code.Candidate };
 
-    ghost use Rattle.candidates.specs.Found.{Rising};
+    ghost use Rattle.candidates.specs.Found.{nothing, Rising};
+    ghost use Rattle.candidates.specs.Places.{count_back, items_back};
 
     ghost view = { λ b. take b.count b.items };
 
-    ghost invariant = { λ b. (b.count ≤ N) × Rising (take b.count b.items) };
+    ghost invariant = { λ b. (b.count ≤ N) × Rising (take b.count b.items) × (length b.items ≡ N) × (drop b.count b.items ≡ replicate (N - b.count) nothing) };
+
+    ghost inverse = { λ xs. record { count = length xs; items = xs ++ replicate (N - length xs) nothing } };
+
+    ghost inverse_ok = { λ b h i. record {
+      count = count_back N b.count b.items h.0 h.2 i;
+      items = items_back N b.count b.items h.0 h.2 h.3 i;
+    } };
 }
 
 impl<const N: usize> Best<N> {
@@ -82,13 +90,23 @@ impl<const N: usize> Best<N> {
         ensures are { self.new ≡ take most (insert lower x self.old) }
         ensures rising { Rising self.new }
     {
-        let place = self.items[..self.count].partition_point(|y| !(x.score < y.score));
-        if place < most {
-            let last = self.count.min(most - 1);
-            let items = &mut self.items[..];
-            items[place..=last].rotate_right(1);
-            items[place] = x;
-            self.count = last + 1;
+        if 0 < most {
+            let stay = self.count.min(most - 1);
+            let last = self.items[stay];
+            if self.count < most || x.score < last.score {
+                // No plainer by `partition_point` and `rotate_right`, which is a call of the C library's `memmove`.
+                let mut place = stay;
+                for j in (0..stay).rev() {
+                    let y = self.items[j];
+                    if !(x.score < y.score) {
+                        break;
+                    }
+                    self.items[j + 1] = y;
+                    place = j;
+                }
+                self.items[place] = x;
+                self.count = stay + 1;
+            }
         }
     }
 }

@@ -57,6 +57,7 @@ fn look<I: Iterator<Item = Candidate> + Drop>(rows: I) -> Seen
 }
 
 // The least distance of point i's candidates. Where no more rows pass than there may be candidates, every one of them is kept and no order is needed.
+#[inline(never)]
 fn nearest(sheet: &Sheet<'_>, i: usize) -> f64
     requires { i < sheet.now.counts.p }
     ensures { EqualAmounts result (nearest (candidates_at (contents sheet.now) i)) }
