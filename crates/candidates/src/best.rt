@@ -52,7 +52,6 @@ impl<const N: usize> Model for Best<N> {
 
 impl<const N: usize> Best<N> {
     // The best `most` of the rows that are left. Among equal scores the earlier stays in front.
-    #[tactic(auto, using(crate::proofs::Inserting::rising_none, crate::proofs::Inserting::kept_best, model::proofs::Members::here), unfolding(model::specs::Lists::fold))]
     pub fn of(rows: Passing<'_>, most: usize) -> Self
         requires measured { Measured rows }
         requires room { (most ≤ N) × (N ≤ most_measured) }
@@ -60,10 +59,22 @@ impl<const N: usize> Best<N> {
         ensures rising { Rising result }
     {
         let mut best = Best::new();
-        for x in rows {
-            best.insert(x, most);
-        }
+        best.fill(rows, most);
         best
+    }
+
+    // The same in an empty list, where it stands: a large one would be copied on its way out of `of`.
+    #[tactic(auto, using(crate::proofs::Inserting::rising_none, crate::proofs::Inserting::kept_best, model::proofs::Members::here), unfolding(model::specs::Lists::fold))]
+    pub(crate) fn fill(&mut self, rows: Passing<'_>, most: usize)
+        requires none { self.old ≡ [] }
+        requires measured { Measured rows }
+        requires room { (most ≤ N) × (N ≤ most_measured) }
+        ensures are { self.new ≡ take most (sort lower rows.entry) }
+        ensures rising { Rising self.new }
+    {
+        for x in rows {
+            self.insert(x, most);
+        }
     }
 
     pub fn new() -> Self
@@ -97,11 +108,10 @@ impl<const N: usize> Best<N> {
                 // No plainer by `partition_point` and `rotate_right`, which is a call of the C library's `memmove`.
                 let mut place = stay;
                 for j in (0..stay).rev() {
-                    let y = self.items[j];
-                    if !(x.score < y.score) {
+                    if !(x.score < self.items[j].score) {
                         break;
                     }
-                    self.items[j + 1] = y;
+                    self.items[j + 1] = self.items[j];
                     place = j;
                 }
                 self.items[place] = x;

@@ -68,7 +68,8 @@ fn nearest(sheet: &Sheet<'_>, i: usize) -> f64
     if uncut {
         return all.least;
     }
-    let best: Best<MOST_PASSING> = Best::of(Passing::new(sheet, i), most);
+    let mut best: Best<MOST_PASSING> = Best::new();
+    best.fill(Passing::new(sheet, i), most);
     look(best.as_slice().iter().copied()).least
 }
 

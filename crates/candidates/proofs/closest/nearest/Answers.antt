@@ -27,7 +27,7 @@ returns c =
     let s = c.args.sheet.now in
     let t = contents s in
     let most = c.from-most.ensures ∙ ap (λ (x : Settings). x.max_candidates) c.settings.ensures in
-    let best = rw c.new-2.ensures.0 at c.of-best.ensures.are in
+    let best = rw c.new-2.ensures.0 at c.fill.ensures.are in
     let seen = seen_drained c.look.result c.look.ensures.sees (YieldsList-from_copied (YieldsList-at c.copied.ensures.source (YieldsList-from_slice c.as_slice.result.now cc))) in
     let is = ap (λ (x : Seen). x.least) seen ∙ ap least_of (c.as_slice.ensures.are ∙ best ∙ best_are s.bytes.now s.counts c.args.i c.requires s.well_formed c.from-most.result) ∙ least_is (take c.from-most.result (passing_at t c.args.i))
     ∙ ap (λ n. nearest (take n (passing_at t c.args.i))) most ∙ ap nearest (sym (candidates_cut t c.args.i)) in
