@@ -70,7 +70,7 @@ placed_is false path added = rw (drop-append_seam path added, take-append_seam p
 
 -- ---- the definition, at either end
 
-abbrev before : List ℕ → Float → PathEnd
+abbrev pub before : List ℕ → Float → PathEnd
 before path offset = record { path = path; offset = offset }
 
 abbrev after : Bool → List ℕ → Float → Walk → PathEnd

@@ -21,7 +21,7 @@ module _ (leg : Leg) (areas : SearchAreas) {starts ends : List Candidate} (ready
   ys = held (contents areas.sheet) ends
 
   -- they are at most ten each
-  ten_pairs : leg_pairs xs ys ≡ pairs xs ys
+  pub ten_pairs : leg_pairs xs ys ≡ pairs xs ys
   ten_pairs = rw (take_all 10 xs (omega (arith, ready.0.few, held_long (contents areas.sheet) starts)), take_all 10 ys (omega (arith, ready.1.few, held_long (contents areas.sheet) ends)))
 
   pub outright : (s : Scored) → some s ≡ try_same_edge_solution leg.limits (pairs xs ys) → best s.path ≡ find_best_path leg.limits (search_of leg areas) xs ys

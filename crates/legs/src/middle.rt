@@ -37,7 +37,7 @@ impl Leg {
         search::bounded_astar(query, areas)
     }
 
-    // The search of a route's middle once more, if it has one: the marks lead back over its roads afterwards. It finds what it found, so its answer needs no look (`found_again`).
+    // The search of a route's middle once more, if it has one: the marks lead back over its roads afterwards. It finds what it found, so its answer needs no look: where that has roads, it is not full (`found_again`); over no roads the marks lead back whatever it tells.
     #[tactic(auto, using(crate::proofs::Middles::led_again))]
     pub fn search_again(&self, middle: Option<Middle>, areas: &mut SearchAreas<'_>)
         requires remembers { MiddleRemembers (search_of self.now areas.old) areas.old.sheet.counts.n middle }

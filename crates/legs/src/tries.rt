@@ -8,13 +8,13 @@ use search::HeapFull;
 use search::areas::SearchAreas;
 
 impl Leg {
-    ghost use Rattle.std.specs.Prelude.{◌≡◌, ◌⊎◌, ◌<◌, IfOk};
+    ghost use Rattle.std.specs.Prelude.{◌≡◌, ◌⊎◌, ◌<◌, true, IfOk};
     ghost use Rattle.std.proofs.Math.Option.{none};
     ghost use Rattle.model.specs.Lists.{sort};
     ghost use Rattle.model.specs.Legs.{pair, pairs, by_sum, try_pair, try_pairs};
     ghost use Rattle.sheet.specs.Contents.{contents};
     ghost use Rattle.candidates.specs.Found.{at_road, held, CandidatesReady};
-    ghost use Rattle.rules.specs.Code.{best_of};
+    ghost use Rattle.rules.specs.Code.{best_of, beats};
     ghost use Rattle.pair_plans.specs.Turns.{turn_of, Remembers};
     ghost use Rattle.search.specs.Areas.{SameRoom};
     ghost use Rattle.legs.specs.Found.{search_of, end_after_pairs};
@@ -33,7 +33,7 @@ impl Leg {
         ensures means { turn_of (search_of self.now areas.old) result
             ≡ try_pair self.now.limits (search_of self.now areas.old) (best_of (search_of self.now areas.old) best) (pair (at_road (contents areas.old.sheet) start) (at_road (contents areas.old.sheet) end)) }
         ensures remembers { Remembers (search_of self.now areas.old) areas.old.sheet.counts.n best → IfOk result (Remembers (search_of self.now areas.old) areas.old.sheet.counts.n) }
-        ensures own { IfOk result (λ b. (b ≡ best) ⊎ Remembers (search_of self.now areas.old) areas.old.sheet.counts.n b) }
+        ensures own { IfOk result (λ b. (b ≡ best) ⊎ (Remembers (search_of self.now areas.old) areas.old.sheet.counts.n b × (beats b best ≡ true))) }
     {
         let sheet = areas.sheet;
         let pair = Pair::new(&sheet, start, end);

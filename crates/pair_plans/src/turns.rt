@@ -1,12 +1,12 @@
 // The turn of one pair, but for its search.
 #![tactic(auto, unfolding(model::specs::Legs::pair_plan, model::specs::Legs::scored_over, model::specs::Legs::path_over, model::specs::Legs::terminal, model::specs::Lists::when, rules::specs::Code::middle_in, search::specs::Answers::roads_in))]
 
-ghost use Rattle.std.specs.Prelude.{◌≡◌, ◌⊎◌, cond, List, ℕ, ◌<◌, length, IfOk};
+ghost use Rattle.std.specs.Prelude.{◌≡◌, ◌⊎◌, cond, List, ℕ, ◌<◌, length, true, IfOk};
 ghost use Rattle.model.specs.declared.Road.{Road};
 ghost use Rattle.model.specs.Numbers.{f0};
 ghost use Rattle.model.specs.Search.{found};
 ghost use Rattle.model.specs.Legs.{MiddleSearch, pair_plan, scored_over, after_search};
-ghost use Rattle.rules.specs.Code.{pair_of, best_of, Within};
+ghost use Rattle.rules.specs.Code.{pair_of, best_of, beats, Within};
 ghost use Rattle.search.specs.Answers.{told, roads_in};
 ghost use Rattle.pair_plans.specs.Turns.{pair_plan_of, turn_of, way_between, Remembers, PlanRemembers};
 
@@ -96,7 +96,7 @@ pub fn after_search(
     ensures remembers { (search : MiddleSearch) (nodes : ℕ) → Within nodes pair.now → m ≡ told (way_between search pair.now bound)
         → Remembers search nodes best → IfOk result (Remembers search nodes) }
     ensures own { (search : MiddleSearch) (nodes : ℕ) → Within nodes pair.now → m ≡ told (way_between search pair.now bound)
-        → IfOk result (λ b. (b ≡ best) ⊎ Remembers search nodes b) }
+        → IfOk result (λ b. (b ≡ best) ⊎ (Remembers search nodes b × (beats b best ≡ true))) }
 {
     match m {
         SearchEnd::Found(cost, n) => {

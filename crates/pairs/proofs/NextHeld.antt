@@ -36,8 +36,8 @@ module _ (t : Sheet) (starts ends : List code.Candidate) (old new : List ℕ) wh
   pub none_held : NextOf (scores starts) (scores ends) old new None → left (held t starts) (held t ends) old ≡ []
   none_held e = e (held t starts) (held t ends) (held_scores t starts) (held_scores t ends)
 
-  pub next_held : (p : Next) → (p.start < length starts) × (p.end < length ends) → NextOf (scores starts) (scores ends) old new (Some p) → Rising starts → Rising ends
+  pub next_held : (p : Next) → NextOf (scores starts) (scores ends) old new (Some p) → (p.start < length starts) × (p.end < length ends) → Rising starts → Rising ends
       → sort by_sum (left (held t starts) (held t ends) old) ≡ pair (at_road t (item_at starts p.start)) (at_road t (item_at ends p.end)) ∷ sort by_sum (left (held t starts) (held t ends) new)
-  next_held p within next a b =
+  next_held p next within a b =
       rw (held_at t starts p.start within.0, held_at t ends p.end within.1) at (next (held t starts) (held t ends)
       record { starts_are = held_scores t starts; ends_are = held_scores t ends; starts_rise = scores_rise starts a; ends_rise = scores_rise ends b })

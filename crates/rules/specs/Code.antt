@@ -1,11 +1,12 @@
 -- What the code's records stand for. The roads between the terminal ones of a path are what its search finds.
-use Rattle.std.specs.Prelude.{◌≡◌, ◌<◌, ℕ, length, get_or, Option, Some, None, List, [], ◌∷◌, ◌++◌, map}
+use Rattle.std.specs.Prelude.{◌≡◌, ◌<◌, ℕ, length, get_or, Option, Some, None, List, [], ◌∷◌, ◌++◌, map, Bool, false}
 use Rattle.std.proofs.Math.Option as definition
 use Rattle.model.specs.declared.Counts.{Counts}
 use Rattle.model.specs.declared.Road.{Road}
+use Rattle.model.specs.Numbers.{◌<ᶠ◌}
 use Rattle.model.specs.Search.{none_found}
 use Rattle.model.specs.Legs as legs
-use Rattle.model.specs.Legs.{EdgeCoverage, MiddleSearch, pair, whole}
+use Rattle.model.specs.Legs.{EdgeCoverage, MiddleSearch, pair, whole, best_score}
 use Rattle.model.specs.Candidates.{Candidate}
 use Rattle.candidates.specs.declared.candidate.Candidate as code
 use Rattle.candidates.specs.Found.{on, no_item}
@@ -55,6 +56,11 @@ scored_of search s = record { path = with_middle s.path (middle_in search s.path
 abbrev pub best_of : MiddleSearch → Option Scored → definition.Option legs.Scored
 best_of search None = definition.none
 best_of search (Some s) = definition.some (scored_of search s)
+
+-- the path of b has a lower score than the one to beat
+abbrev pub beats : Option Scored → Option Scored → Bool
+beats None best = false
+beats (Some s) best = s.score <ᶠ best_score (best_of no_search best)
 
 -- b stands for s, whatever a search finds
 abbrev pub BestIs : Option Scored → definition.Option legs.Scored → Type 0

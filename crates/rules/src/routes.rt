@@ -1,9 +1,9 @@
 // Routes and the best of them.
 #![tactic(auto, unfolding(model::specs::Legs::same_edge_scored, model::specs::Legs::same_edge_path, model::specs::Legs::best_score, model::specs::Legs::improve, model::specs::Legs::first_or_better, model::specs::Lists::when, crate::specs::Code::middle_in))]
 
-ghost use Rattle.std.specs.Prelude.{◌≡◌, ◌⊎◌};
+ghost use Rattle.std.specs.Prelude.{◌≡◌, ◌⊎◌, true, None};
 ghost use Rattle.model.specs.Legs.{MiddleSearch, same_edge_scored, best_score, improve, first_or_better};
-ghost use Rattle.rules.specs.Code.{pair_of, best_of, BestIs};
+ghost use Rattle.rules.specs.Code.{pair_of, best_of, beats, BestIs};
 
 use crate::{Pair, PathResult, Scored, TerminalEdge};
 use model::Limits;
@@ -45,7 +45,7 @@ pub fn best_score(best: &Option<Scored>) -> f64
 // The better of the two: the next path takes the place of the best one only on a strictly lower score.
 pub fn improve(best: Option<Scored>, next: Option<Scored>) -> Option<Scored>
     ensures better { (search : MiddleSearch) → best_of search result ≡ improve (best_of search best) (best_of search next) }
-    ensures one { (result ≡ best) ⊎ (result ≡ next) }
+    ensures one { (result ≡ best) ⊎ ((result ≡ next) × (beats next best ≡ true)) }
 {
     match &next {
         Some(s) if s.score < best_score(&best) => next,
@@ -55,7 +55,8 @@ pub fn improve(best: Option<Scored>, next: Option<Scored>) -> Option<Scored>
 
 // The same, but the first one counts whatever its score is.
 pub fn first_or_better(best: Option<Scored>, next: Option<Scored>) -> Option<Scored>
-    ensures { (search : MiddleSearch) → best_of search result ≡ first_or_better (best_of search best) (best_of search next) }
+    ensures better { (search : MiddleSearch) → best_of search result ≡ first_or_better (best_of search best) (best_of search next) }
+    ensures one { (result ≡ best) ⊎ ((result ≡ next) × ((best ≡ None) ⊎ (beats next best ≡ true))) }
 {
     if best.is_none() {
         return next;

@@ -1,10 +1,10 @@
 // The best path on one road.
 #![tactic(auto, unfolding(model::specs::Legs::close, model::specs::Legs::take_close))]
 
-ghost use Rattle.std.specs.Prelude.{◌≡◌, map, ◌<◌};
+ghost use Rattle.std.specs.Prelude.{◌≡◌, ◌⊎◌, map, ◌<◌};
 ghost use Rattle.sheet.specs.Contents.{contents};
 ghost use Rattle.model.specs.Lists.{fold};
-ghost use Rattle.model.specs.Legs.{MiddleSearch, pair, pairs, close, take_close, try_same_edge_solution};
+ghost use Rattle.model.specs.Legs.{MiddleSearch, pair, pairs, same_edge_scored, close, take_close, try_same_edge_solution};
 ghost use Rattle.candidates.specs.Found.{at_road, held, CandidatesReady};
 ghost use Rattle.rules.specs.Code.{pair_of, best_of, BestIs, Named};
 
@@ -26,7 +26,8 @@ fn close(limits: Limits, pair: &Pair) -> bool
 
 // The best so far after one pair.
 fn take_close(limits: Limits, best: Option<Scored>, pair: &Pair) -> Option<Scored>
-    ensures { (search : MiddleSearch) → best_of search result ≡ take_close limits (best_of search best) (pair_of pair.now) }
+    ensures taken { (search : MiddleSearch) → best_of search result ≡ take_close limits (best_of search best) (pair_of pair.now) }
+    ensures one { (result ≡ best) ⊎ BestIs result (same_edge_scored limits (pair_of pair.now)) }
 {
     if close(limits, pair) {
         routes::first_or_better(best, routes::same_edge_scored(limits, pair))

@@ -24,6 +24,18 @@ pub record Running (n e slots : ℕ) (q : Query) (roads : ℕ → Road) (end : �
   pub same : (steps : ℕ) → run steps (slots + length a.heap - a.made) slots q (state_of roads n a) ≡ end steps
 
 module _ {n e slots : ℕ} {q : Query} {roads : ℕ → Road} {end : ℕ → SearchEnd} {a : Columns} (w : Running n e slots q roads end a) where
+  -- an entry is taken out, if there is one
+  pub rest_proper : {rest : Columns} → rest ≡ record a { heap = pop (key_in a.f_score) a.heap } → Proper n e slots rest
+  rest_proper popped = rw popped record {
+    sized = record { real = w.proper.sized.real; penalised = w.proper.sized.penalised; came = w.proper.sized.came; f_score = w.proper.sized.f_score; g_score = w.proper.sized.g_score; node = w.proper.sized.node };
+    fewer = omega (arith, length_pop (key_in a.f_score) a.heap, w.proper.fewer);
+    room = w.proper.room;
+    numbers = pop_below (key_in a.f_score) a.heap a.made w.proper.numbers;
+    nodes = w.proper.nodes;
+    reached = w.proper.reached;
+    marks = w.proper.marks;
+  }
+
   -- the heap is empty
   pub run_end : None ≡ option_map (entry_in a) (slice_get a.heap 0) → (steps : ℕ) → none_found ≡ end steps
   unfolding run onward take_step
@@ -51,17 +63,6 @@ module _ {n e slots : ℕ} {q : Query} {roads : ℕ → Road} {end : ℕ → Sea
 
     pub taken_node : (entry.node < n) × Reached rest entry.node
     taken_node = rw (popped, first.3) (w.proper.nodes first.0 made_before, w.proper.reached first.0 made_before)
-
-    pub rest_proper : Proper n e slots rest
-    rest_proper = rw popped record {
-      sized = record { real = w.proper.sized.real; penalised = w.proper.sized.penalised; came = w.proper.sized.came; f_score = w.proper.sized.f_score; g_score = w.proper.sized.g_score; node = w.proper.sized.node };
-      fewer = omega (arith, length_pop (key_in a.f_score) a.heap, w.proper.fewer);
-      room = w.proper.room;
-      numbers = pop_below (key_in a.f_score) a.heap a.made w.proper.numbers;
-      nodes = w.proper.nodes;
-      reached = w.proper.reached;
-      marks = w.proper.marks;
-    }
 
     -- it is visited
     taken : (steps : ℕ) → take_step steps slots q a.heap (state_of roads n a) ≡ visit steps slots q (entry_as entry) (state_of roads n rest)

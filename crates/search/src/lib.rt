@@ -7,7 +7,7 @@ mod relax;
 pub mod route;
 mod turns;
 
-ghost use Rattle.std.specs.Prelude.{◌≡◌, ℕ, ◌<◌, true, Ok};
+ghost use Rattle.std.specs.Prelude.{◌≡◌, ℕ, ◌<◌, true, Ok, IfOk};
 ghost use Rattle.model.specs.Search.{search_within, bounded_astar};
 ghost use Rattle.bounds.specs.Amounts.{Amount};
 ghost use Rattle.sheet.specs.Contents.{contents};
@@ -45,7 +45,8 @@ pub enum SearchEnd {
 fn search_from_start(search: &Search<'_>, areas: &mut SearchAreas<'_>) -> Result<bool, HeapFull>
     requires { (search.now.query.start < areas.old.sheet.counts.n) × (areas.old.sheet ≡ search.now.sheet) }
     ensures same_room { SameRoom areas.old areas.new }
-    ensures arrived { result ≡ Ok true → Ready search.now areas.new × Labelled areas.new search.now.query.goal }
+    ensures stands { IfOk result (λ arrived. Ready search.now areas.new) }
+    ensures arrived { result ≡ Ok true → Labelled areas.new search.now.query.goal }
     ensures found { (steps : ℕ) → end_of_search steps (query_at search.now) result (labels_at search.now.sheet areas.new)
         ≡ search_within steps areas.old.slots areas.old.slots (query_at search.now) search.now.query.start }
 {

@@ -37,7 +37,8 @@ fn visit(search: &Search<'_>, areas: &mut SearchAreas<'_>, entry: Entry) -> Resu
 pub fn run_search(search: &Search<'_>, areas: &mut SearchAreas<'_>) -> Result<bool, HeapFull>
     requires { Ready search.now areas.old × (length areas.old.heap.items ≡ areas.old.made) }
     ensures same_room { SameRoom areas.old areas.new }
-    ensures arrived { result ≡ Ok true → Ready search.now areas.new × Labelled areas.new search.now.query.goal }
+    ensures stands { IfOk result (λ arrived. Ready search.now areas.new) }
+    ensures arrived { result ≡ Ok true → Labelled areas.new search.now.query.goal }
     ensures found { (steps : ℕ) → end_of_search steps (query_at search.now) result (labels_at search.now.sheet areas.new)
         ≡ run steps areas.old.slots areas.old.slots (query_at search.now) (state_at search.now.sheet areas.old) }
 {
@@ -47,5 +48,6 @@ pub fn run_search(search: &Search<'_>, areas: &mut SearchAreas<'_>) -> Result<bo
             return Ok(true);
         }
     }
+    // The heap is empty.
     Ok(false)
 }

@@ -9,8 +9,9 @@ end_of_search-requires-clause-reached c = λ found.
     let nodes = rw (← made.0, ← made.1) at c.requires.nodes in
     let amounts = rw (← made.1) at c.requires.amounts in
     let search = c.search_from_start-arrived in
+    let ready = rw found at search.ensures.stands in
     let there = search.ensures.arrived found in
-    arrives c.new-search.result.sheet c.new-search.result.query _ nodes.0 nodes.1 c.args.areas.now.room.0 amounts.0 amounts.1 _ search.new.areas search.ensures.found found there.0.1 there.1.1
+    arrives c.new-search.result.sheet c.new-search.result.query _ nodes.0 nodes.1 c.args.areas.now.room.0 amounts.0 amounts.1 _ search.new.areas search.ensures.found found ready.1 there.1
 
 pub returns-clause-found : goal.returns-clause-found
 returns-clause-found c =

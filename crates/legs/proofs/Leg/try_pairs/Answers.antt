@@ -22,14 +22,14 @@ pub returns-then-best_score-first-clause-means : goal.returns-then-best_score-fi
 unfolding next_pair
 returns-then-best_score-first-clause-means c = let a = c.args in let t = contents a.areas.now.sheet in let p = c.requires.ready in
     let search = search_of a.self.now a.areas.now in
-    let next = next_held t a.starts.now a.ends.now _ _ _ c.in-Some.ensures.within c.in-Some.ensures.next p.0.rising p.1.rising in
+    let next = next_held t a.starts.now a.ends.now _ _ _ c.in-Some.ensures.next c.in-Some.ensures.within p.0.rising p.1.rising in
     good_enough a.self.now.limits search _ _ _ _ next _ c.loop-next.invariant.means (rw (c.best_score.ensures search) at c.if-best_score-first.true)
 
 pub returns-in_err-best-clause-means : goal.returns-in_err-best-clause-means
 unfolding next_pair
 returns-in_err-best-clause-means c = let a = c.args in let t = contents a.areas.now.sheet in let p = c.requires.ready in
     let search = search_of a.self.now a.areas.now in
-    let next = next_held t a.starts.now a.ends.now _ _ _ c.in-Some.ensures.within c.in-Some.ensures.next p.0.rising p.1.rising in
+    let next = next_held t a.starts.now a.ends.now _ _ _ c.in-Some.ensures.next c.in-Some.ensures.within p.0.rising p.1.rising in
     let turned = rw (c.loop-next.invariant.same_room.sheet, c.loop-next.invariant.same_room.slots) at c.in_err-best.ensures.means in
     let full = err_from_is_err_and c.from_residual.result c.from_residual.ensures.1 in
     rw full.1 (tried a.self.now.limits search _ _ _ _ next _ c.loop-next.invariant.means (rw (c.best_score.ensures search) at c.if-best_score-first.false) _ turned)
@@ -39,7 +39,7 @@ unfolding next_pair
 loop-next-preserved c = let a = c.args in let t = contents a.areas.now.sheet in let p = c.requires.ready in
     let search = search_of a.self.now a.areas.now in
     let room = c.loop-next.invariant.same_room in
-    let next = next_held t a.starts.now a.ends.now _ _ _ c.in-Some.ensures.within c.in-Some.ensures.next p.0.rising p.1.rising in
+    let next = next_held t a.starts.now a.ends.now _ _ _ c.in-Some.ensures.next c.in-Some.ensures.within p.0.rising p.1.rising in
     let turned = rw (room.sheet, room.slots) at c.in_ok-best.ensures.means in
     let there = rw (room.sheet, room.slots) at c.in_ok-best.ensures.remembers in record {
       same_room = record { sheet = c.in_ok-best.ensures.same_room.sheet ∙ room.sheet; slots = c.in_ok-best.ensures.same_room.slots ∙ room.slots };

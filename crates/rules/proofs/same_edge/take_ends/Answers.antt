@@ -12,6 +12,6 @@ loop-end-preserved c search = let a = c.args in let p = c.requires in let t = co
     let so_far = c.loop-end.invariant search in
     let more = ends_more a.limits (at_road t x) (at_road t) (best_of search a.best) a.ends.now c.loop-end.end-index no_item c.loop-end-test.true in
     elim c.if-end-start.branch [
-      | then-end-start w ↦ let taken = w.take_close-best.ensures search in cc w.new-pair.ensures.stands
+      | then-end-start w ↦ let taken = w.take_close-best.ensures.taken search in cc w.new-pair.ensures.stands
       | else-end-start w ↦ let left = apart_left a.sheet.now a.limits (best_of search c.loop-end.best) x y p.0 (p.1 c.loop-end.end-index c.loop-end-test.true) w.if-end-start.false in cc
     ]

@@ -11,7 +11,7 @@ pub visit-requires-clause-ready : goal.visit-requires-clause-ready
 visit-requires-clause-ready c =
     let w = c.loop-entry.invariant in
     let room = c.in-Some.ensures.same_room in
-    (room.sheet ∙ w.0.sheet ∙ c.requires.0.0, rw (room.slots, w.0.slots) (rest_proper w.1 c.in-Some.ensures.top c.in-Some.ensures.left))
+    (room.sheet ∙ w.0.sheet ∙ c.requires.0.0, rw (room.slots, w.0.slots) (rest_proper w.1 c.in-Some.ensures.left))
 
 pub visit-requires-clause-labelled : goal.visit-requires-clause-labelled
 visit-requires-clause-labelled c =
@@ -46,6 +46,12 @@ loop-entry-preserved c =
     let same = popped.slots ∙ w.0.slots in
     let visited = λ (steps : ℕ). rw (c.if-arrived.false, same) at (after.state steps) in
     (record { sheet = after.same_room.sheet ∙ popped.sheet ∙ w.0.sheet; slots = after.same_room.slots ∙ same }, run_on w.1 c.in-Some.ensures.top c.in-Some.ensures.left (rw same at after.kept) visited)
+
+pub returns-clause-stands : goal.returns-clause-stands
+returns-clause-stands c =
+    let w = c.loop-entry.invariant in
+    let room = c.in_default.ensures.same_room in
+    (room.sheet ∙ w.0.sheet ∙ c.requires.0.0, rw (room.slots, w.0.slots) (rest_proper w.1 c.in_default.ensures.left))
 
 pub returns-clause-found : goal.returns-clause-found
 returns-clause-found c = run_end c.loop-entry.invariant.1 c.in_default.ensures.top
