@@ -1,7 +1,7 @@
 // The parts of a sheet: the first bad field of each. The parameters are those of the definition's `records`, so a struct of them would be no plainer.
 ghost use Rattle.std.specs.Prelude.{◌≡◌, ◌+◌, ◌*◌, ◌≤◌, ◌<◌, length, true, All};
 ghost use Rattle.std.specs.Int.{w32, from_le_bytes};
-ghost use Rattle.model.specs.Layout.{goal_width, most_nodes};
+ghost use Rattle.model.specs.Layout.{goal_width};
 ghost use Rattle.model.specs.Table.{records};
 ghost use Rattle.model.specs.Judge.{header_table, settings_table, point_table, road_table, number_table, row_table, goal_table};
 
@@ -51,10 +51,13 @@ pub fn rows(s: &[u8], base: usize, k: usize, e: usize) -> Result<(), usize>
 
 // k goal rows, on a sheet of n nodes.
 pub fn goals(s: &[u8], base: usize, k: usize, n: usize) -> Result<(), usize>
-    requires few { n ≤ most_nodes }
-    requires within { base + k * goal_width n ≤ length s.now }
+    requires { base + k * goal_width n ≤ length s.now }
     ensures { result ≡ records s.now (goal_width n) (goal_table n) k base }
 {
+    // Without a row nothing bounds n, and the width may not fit.
+    if k == 0 {
+        return Ok(());
+    }
     run(base, 8 + n * 8, k, |at| records::goal(s, at, n))
 }
 
