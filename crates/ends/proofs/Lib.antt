@@ -1,4 +1,5 @@
 pub mod Starts
 pub mod Turns
 pub mod Grow
+pub mod Placed
 pub mod Finish

@@ -48,8 +48,11 @@ impl End for Backward {
         sheet.from_first(v)
     }
 
+    #[tactic(auto, using(crate::proofs::Placed::turned))]
     fn place(ids: &mut [usize], n: usize) {
-        ids[n..].reverse();
-        ids.rotate_left(n);
+        // Two reversals in place: std's `rotate_left` clears 4,096 bytes of its own on the stack at each call.
+        ids.reverse();
+        let added = ids.len() - n;
+        ids[added..].reverse();
     }
 }
