@@ -1,4 +1,4 @@
-use Rattle.std.proofs.Common.{arith, rules, ap₂}
+use Rattle.std.proofs.Common.{arith, ap₂}
 use Rattle.model.specs.Call.{written}
 use Rattle.model.specs.Numbers.{f0}
 use Rattle.model.proofs.Fill.{map_step}
@@ -15,5 +15,5 @@ loop-j-preserved c = record {
 pub returns : goal.returns
 unfolding written
 returns c = ap₂ lists
-    (padded 0 _ c.args.path.now c.loop-j.invariant.ids (omega arith) c.requires.0 (search rules))
-    (padded f0 _ c.args.path.now c.loop-j.invariant.lengths (omega arith) c.requires.1 (search rules))
+    (padded 0 _ c.args.path.now _ _ c.loop-j.invariant.ids (omega arith) c.requires.0 (c.fill.ensures.after (λ y is. is)) (omega arith) (omega arith))
+    (padded f0 _ c.args.path.now _ _ c.loop-j.invariant.lengths (omega arith) c.requires.1 (c.fill-2.ensures.after (λ y is. is)) (omega arith) (omega arith))

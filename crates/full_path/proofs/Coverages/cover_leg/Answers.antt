@@ -1,4 +1,4 @@
-use Rattle.std.proofs.Common.{arith, append-nil}
+use Rattle.std.proofs.Common.{◌∙◌, arith, append-nil}
 use Rattle.sheet.specs.Contents.{contents}
 use Rattle.rules.specs.Code.{terminal_of}
 use Rattle.model.proofs.Parsed.{number_is}
@@ -8,8 +8,8 @@ use Rattle.full_path.proofs.Coverages.cover_leg.Goals as goal
 pub loop-number-init : goal.loop-number-init
 loop-number-init c =
     let sheet = c.args.sheet.now in
-    let first = c.add_terminal.ensures.added (contents sheet) sheet.counts.e (number_is sheet.bytes.now sheet.counts) c.requires.1 c.requires.0.head in
-    record { sizes = c.add_terminal.ensures.room.0; few = omega arith; below = first.0; covered = rw append-nil first.1 }
+    let first = c.add_terminal.ensures.added (contents sheet) sheet.counts.e (number_is sheet.bytes.now sheet.counts) c.requires.1 (grind (arith, c.requires.0.head)) in
+    record { sizes = c.add_terminal.ensures.room.0; few = omega arith; below = first.0; covered = rw append-nil (first.1 ∙ grind arith) }
 
 pub loop-number-preserved : goal.loop-number-preserved
 loop-number-preserved c =

@@ -20,7 +20,7 @@ returns c =
     let o = c.copied-last.result in
     let p = c.first_number-first.result in
     let twice : c.if-is_some.twice ≡ one_road o p = elim c.if-is_some.branch [
-      | then-is_some v ↦ rw (sym c.is_some.ensures ∙ v.if-is_some.true) (v.twice-is ∙ v.eq-twice.ensures)
+      | then-is_some v ↦ rw (sym c.is_some.ensures ∙ v.if-is_some.true) (v.twice-is ∙ v.eq-twice.ensures ∙ grind arith)
       | else-is_some v ↦ rw (sym c.is_some.ensures ∙ v.if-is_some.false) (v.twice-is ∙ v.if-is_some.false)
     ] in
     elim c.if-twice.branch [

@@ -11,13 +11,13 @@ returns-then-number g c = λ f gives.
     let there : a.from + (i - a.from) ≡ i = omega arith in
     let here : c.number-in-loop-i.result ≡ f i = gives i (omega arith) (omega arith) c.number-in-loop-i.result c.number-in-loop-i.ensures in
     let next : c.number.result ≡ f (i + 1) = gives (i + 1) (omega arith) (omega arith) c.number.result c.number.ensures in
-    every_false (λ j. ltb (f j) (f (j + 1))) (a.k - 1) a.from (i - a.from) (omega arith) (rw there (le-ltb _ _ (rw (← here, ← next) c.if-number.true)))
+    every_false (λ j. ltb (f j) (f (j + 1))) (a.k - 1) a.from (i - a.from) (omega arith) (rw there (le-ltb _ _ (rw (← here, ← next) (omega arith))))
 
 pub loop-i-preserved : goal.loop-i-preserved
 loop-i-preserved g c =
     let i = c.loop-i.i in
     below_more (λ j. c.args.from ≤ j → (a : ℕ) × (b : ℕ) × goal.F-post g c.args.number j a × goal.F-post g c.args.number (j + 1) b × (a < b)) i c.loop-i.invariant
-    (λ l. (c.number-in-loop-i.result, c.number.result, c.number-in-loop-i.ensures, c.number.ensures, c.if-number.false))
+    (λ l. (c.number-in-loop-i.result, c.number.result, c.number-in-loop-i.ensures, c.number.ensures, omega arith))
 
 pub returns : goal.returns
 returns g c = λ f gives.
