@@ -43,11 +43,11 @@ all_of_at bs e i = all_after_at true bs e i
 
 -- ---- one refusal
 
-refuse_past : (n : ℕ) (b : Bool) (v : Judged) → b ≡ true → refuse n b v ≡ v
+pub refuse_past : (n : ℕ) (b : Bool) (v : Judged) → b ≡ true → refuse n b v ≡ v
 unfolding refuse
 refuse_past n b v e = rw (e, refuse)
 
-refuse_field_past : (u : Verdict) (v : Judged) → u ≡ Ok tt → refuse_field u v ≡ v
+pub refuse_field_past : (u : Verdict) (v : Judged) → u ≡ Ok tt → refuse_field u v ≡ v
 unfolding refuse_field
 refuse_field_past u v e = rw (e, refuse_field)
 

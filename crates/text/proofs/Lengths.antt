@@ -26,15 +26,15 @@ road_length : (id : ℕ) (metres : Float) → length (road_line id metres) ≤ 4
 unfolding line ascii
 road_length id metres = omega (arith, more, none, decimal_length, bits_length)
 
-path_length : (m : Match) → length (path_line m) ≤ 26
+pub path_length : (m : Match) → length (path_line m) ≤ 26
 unfolding path_line line ascii
 path_length m = omega (arith, more, none, decimal_length)
 
-last_length : (m : Match) → length (last_lines m) ≤ 148
+pub last_length : (m : Match) → length (last_lines m) ≤ 148
 unfolding last_lines line ascii
 last_length m = simp length-append (omega (arith, more, none, decimal_length, bits_length))
 
-refusal_length : (number a b : ℕ) → length (refusal_line number a b) ≤ 71
+pub refusal_length : (number a b : ℕ) → length (refusal_line number a b) ≤ 71
 unfolding refusal_line line ascii
 refusal_length number a b = omega (arith, more, none, decimal_length)
 
