@@ -1,10 +1,18 @@
 -- The loop over the pairs: those that are left decide, as all of them do from the start.
-use Rattle.std.proofs.Common.{◌≡◌, true, false, List, [], ◌∷◌}
+use Rattle.std.proofs.Common.{ℕ, ◌<◌, ◌≡◌, true, false, List, [], ◌∷◌, length, ap, arith}
 use Rattle.std.proofs.Math.Option.{Option}
+use Rattle.std.specs.Prelude.{Some, None}
+use Rattle.model.specs.Sheet.{Sheet}
 use Rattle.model.specs.declared.Limits.{Limits}
 use Rattle.model.specs.Numbers.{◌≤ᶠ◌}
 use Rattle.model.specs.Lists.{sort, fold}
-use Rattle.model.specs.Legs.{Pair, by_sum, Scored, MiddleSearch, LegEnd, Turn, best_score, leg_end, next_pair, try_pair, end_or_try, try_pairs}
+use Rattle.model.specs.Legs.{Pair, pair, by_sum, Scored, MiddleSearch, LegEnd, Turn, best_score, leg_end, next_pair, try_pair, end_or_try, try_pairs}
+use Rattle.candidates.specs.declared.candidate.Candidate as code
+use Rattle.candidates.specs.Found.{at_road, held, item_at, Rising}
+use Rattle.candidates.proofs.Inserting.{length_sort}
+use Rattle.pairs.specs.declared.Next.{Next}
+use Rattle.pairs.specs.Left.{left, NextOf}
+use Rattle.pairs.proofs.NextHeld.{scores, none_held, next_held}
 
 -- the pairs p, ps are left, and decide for `all`
 module _ (b : Limits) (search : MiddleSearch) (best : Option Scored) (rows : List Pair) (p : Pair) (ps : List Pair) (next : rows ≡ p ∷ ps)
@@ -23,3 +31,21 @@ module _ (b : Limits) (search : MiddleSearch) (best : Option Scored) (rows : Lis
 pub all_tried : (b : Limits) (search : MiddleSearch) (best : Option Scored) (rows : List Pair) (all : LegEnd) → rows ≡ [] → try_pairs b search (sort by_sum rows) best ≡ all → leg_end best ≡ all
 unfolding sort fold try_pairs
 all_tried b search best rows all none so_far = rw none at so_far
+
+-- ---- which pairs are left, where `next_pair` was asked for those of xs and ys, and these are the starts and the ends
+
+module _ (t : Sheet) (starts ends : List code.Candidate) (old new : List ℕ) {xs ys : List code.Candidate} where
+  pub no_pair_left : NextOf (scores xs) (scores ys) old new None → xs ≡ starts → ys ≡ ends → left (held t starts) (held t ends) old ≡ []
+  no_pair_left none first last = none_held t starts ends old new (rw (first, last) at none)
+
+  pub next_pair_left : (p : Next) → NextOf (scores xs) (scores ys) old new (Some p) → (p.start < length xs) × (p.end < length ys) → xs ≡ starts → ys ≡ ends → Rising starts → Rising ends
+      → sort by_sum (left (held t starts) (held t ends) old) ≡ pair (at_road t (item_at starts p.start)) (at_road t (item_at ends p.end)) ∷ sort by_sum (left (held t starts) (held t ends) new)
+  next_pair_left p next within first last a b = next_held t starts ends old new p (rw (first, last) at next) (rw (first, last) at within) a b
+
+  -- fewer than before
+  pub fewer_pairs_left : (p : Next) → NextOf (scores xs) (scores ys) old new (Some p) → (p.start < length xs) × (p.end < length ys) → xs ≡ starts → ys ≡ ends → Rising starts → Rising ends
+      → length (left (held t starts) (held t ends) new) < length (left (held t starts) (held t ends) old)
+  fewer_pairs_left p next within first last a b =
+      let all = length_sort by_sum (left (held t starts) (held t ends) old) in
+      let rest = length_sort by_sum (left (held t starts) (held t ends) new) in
+      omega (arith, all, rest, ap length (next_pair_left p next within first last a b))

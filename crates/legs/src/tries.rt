@@ -50,7 +50,6 @@ impl Leg {
     }
 
     // The best after the pairs in the order of their sums, until one cannot win or the heap is used up.
-    #[tactic(auto, using(crate::proofs::Going::all_tried, pairs::proofs::NextHeld::none_held, pairs::proofs::NextHeld::next_held, candidates::proofs::Inserting::length_sort), unfolding(model::specs::Legs::next_pair))]
     pub fn try_pairs(
         &self,
         starts: &[Candidate],
